@@ -1,0 +1,34 @@
+-- `board::Board::check_output` meets its contract.
+use mathlib.Core.Path.{_≡_}
+use borrow.Author.Needs.{needs}
+use Rattle.checks.specs.Checks.{verdict}
+use Rattle.checks.proofs.Laws.{first-taken}
+use Rattle.board.proofs.Soundness.{Sound, sound-parts}
+use Rattle.board.proofs.Board.check_output.Statement.{statement}
+use Rattle.board.proofs.Board.check_output.Tie as tie
+
+wanted-requires : tie.Need-wanted-requires
+wanted-requires c κs = sound-parts _ (c .before .pre) .sides
+
+first-impossible-requires : tie.Need-first-impossible-requires
+first-impossible-requires c κs = sound-parts _ (c .before .before .before .before .before .before .pre) .in-force .samples-high
+
+returns : tie.Need-returns
+unfolding verdict
+returns c =
+    let f = c .before .before in
+    let w = f .before .before .before .before in
+    rw (
+      c .then2 .ensures,
+      c .before .then .ensures,
+      f .found .ensures,
+      f .before .first-impossible .ensures,
+      f .before .before .when2 .ensures,
+      f .before .before .before .word-count .ensures,
+      w .when .ensures,
+      w .before .before .wanted .ensures,
+      first-taken,
+    )
+
+pub check-output-spec : {M : Type 1} → statement M
+check-output-spec = tie.close (tie.spec (λ c. search needs) wanted-requires (λ c κs. search needs) (λ c κs. search needs) (λ c κs. search needs) first-impossible-requires (λ c κs. search needs) (λ c κs. search needs) (λ c κs. search needs) returns)

@@ -1,0 +1,16 @@
+-- `board::Board::start` meets its contract.
+use Rattle.board.specs.Ramp.{startOf}
+use Rattle.checks.specs.Checks.{verdict}
+use Rattle.checks.proofs.Laws.{first-taken}
+use borrow.Author.Needs.{needs}
+use Rattle.board.proofs.Board.start.Statement.{statement}
+use Rattle.board.proofs.Board.start.Tie as tie
+
+returns : tie.Need-returns
+unfolding startOf verdict
+returns c =
+    let t = c .before .before in
+    rw (c .leaves .ensures, c .before .begun .ensures, t .then .ensures, t .before .check-sound .ensures, t .before .before .when .ensures, first-taken)
+
+pub start-spec : {M : Type 1} → statement M
+start-spec = tie.close (tie.spec (λ c κs. search needs) (λ c κs. search needs) (λ c κs. search needs) (λ c κs. search needs) (λ c κs. search needs) returns)

@@ -1,0 +1,126 @@
+-- What the checks of a taken call have shown.
+--     ramp-taken         what Feed and Read out begin with
+--     feed-taken, feedable        Feed
+--     read-out-taken, readable-frame     Read out
+use Prim.Native.Nat.{ℕ, _+_, _*_, _≤_}
+use mathlib.Core.Bool.{Bool, true, false, not}
+use mathlib.Core.List.{List, [], _∷_}
+use mathlib.Core.Path.{_≡_, refl, sym, _∙_}
+use borrow.Author.Tests.{ltb-false, le-leb, eqb-true, not-false}
+use native.Mathlib.Omega.{arith}
+use lib.Dec.{ltb, eqb}
+use lib.IntN.{ℤ, pos}
+use lib.ListN.{length, getD}
+use Rattle.laws.specs.Lists.{every}
+use Rattle.laws.proofs.Every.{every-at, every-all, every-each}
+use Rattle.laws.proofs.Tests.{true-and}
+use Rattle.settings.proofs.Parts.{in-range-whole}
+use Rattle.checks.specs.declared.Answer.the-variants.{Taken}
+use Rattle.checks.specs.declared.Found.the-variants.{Nothing}
+use Rattle.checks.specs.Search.{firstPlace}
+use Rattle.checks.specs.Checks.{found, verdict}
+use Rattle.checks.proofs.Laws.{verdict-append, both-taken, when-taken, found-taken}
+use Rattle.checks.proofs.Search.{found-none}
+use Rattle.entries.specs.Possible.{readingInRange, possible}
+use Rattle.ramp.specs.Feed.{Feedable}
+use Rattle.ramp.specs.Stale.{staleAt}
+use Rattle.ramp.proofs.Intervals.{stale-ready}
+use Rattle.words.specs.Word.{readable}
+use Rattle.words.specs.Frame.{wordCount, Readable}
+use Rattle.words.proofs.Entries.{possible-readable}
+use Rattle.board.specs.declared.Board.{Board}
+use Rattle.board.specs.Board.{area, wanted, sound}
+use Rattle.board.specs.Ramp.{rampChecks, readingChecks, feedChecks, outputChecks, readOutChecks}
+use Rattle.board.proofs.Soundness.{Sound, Sides, sound-parts, sides-of, wanted-nine}
+
+pub record RampTaken (b : Board) (sumsLength : ℕ) : Type 0 where
+  pub whole : sound b ≡ true
+  pub running : b .running ≡ true
+  pub length-is : sumsLength ≡ area b
+
+pub ramp-taken : (b : Board) (n : ℕ) → verdict (rampChecks b n) ≡ Taken → RampTaken b n
+unfolding verdict
+ramp-taken b n e =
+    let p = both-taken _ _ e in
+    let q = both-taken _ _ (p .1) in
+    let r = both-taken _ Taken (q .1) in
+    record {
+      whole = not-false _ (when-taken _ 99 (p .0));
+      running = not-false _ (when-taken _ 10 (q .0));
+      length-is = eqb-true _ _ (not-false _ (when-taken _ 11 (r .0)));
+    }
+
+-- a search over a list that finds nothing which fails a test: every element passes
+none-fails : {A : Type 0} (test : A → Bool) (l : List A) (d : A) (n : ℕ) → found (firstPlace (length l) (λ i. not (test (getD l i d)))) n ≡ Taken → every test l ≡ true
+none-fails test l d n e =
+    let t : ℕ → Bool = λ i. not (test (getD l i d)) in
+    every-all test l d (λ i h. not-false _ (found-none t (length l) (found-taken (firstPlace (length l) t) n e) i h))
+
+pub record FeedTaken (b : Board) (xs : List ℕ) (sums : List ℤ) : Type 0 where
+  pub ramp : RampTaken b (length sums)
+  pub room : b .fed + length xs ≤ wanted b
+  pub readings : every readingInRange xs ≡ true
+  pub stale : firstPlace (length sums) (staleAt (pos 0) possible (length sums) (b .fed) (length xs) sums) ≡ Nothing
+
+pub feed-taken : (b : Board) (xs : List ℕ) (sums : List ℤ) → verdict (feedChecks b xs sums) ≡ Taken → FeedTaken b xs sums
+unfolding verdict
+feed-taken b xs sums e =
+    let a = both-taken (verdict (rampChecks b (length sums))) (verdict (readingChecks b xs sums)) (sym (verdict-append (rampChecks b (length sums)) (readingChecks b xs sums)) ∙ e) in
+    let p = both-taken _ _ (a .1) in
+    let q = both-taken _ _ (p .1) in
+    let r = both-taken _ Taken (q .1) in
+    record {
+      ramp = ramp-taken b (length sums) (a .0);
+      room = ltb-false _ _ (when-taken _ 12 (p .0));
+      readings = none-fails readingInRange xs 0 13 (q .0);
+      stale = found-taken _ 14 (r .0);
+    }
+
+pub feedable : (b : Board) (xs : List ℕ) (sums : List ℤ) → FeedTaken b xs sums → Feedable (b .«in_force») (b .fed) xs sums
+feedable b xs sums t =
+    let s = sound-parts b (t .ramp .whole) in
+    let z = sides-of b s in
+    let l = t .ramp .length-is in
+    record {
+      some = rw l (z .some);
+      few = rw l (z .few);
+      settings = in-range-whole _ (s .in-force);
+      room = rw l (omega (arith, t .room, wanted-nine b s));
+      readings = t .readings;
+      entries = stale-ready (pos 0) possible (length sums) (b .fed) (length xs) sums (rw l (z .some)) (t .stale);
+    }
+
+pub record ReadOutTaken (b : Board) (sums : List ℤ) (outputLength : ℕ) : Type 0 where
+  pub ramp : RampTaken b (length sums)
+  pub full : wanted b ≤ b .fed
+  pub room : outputLength ≡ wordCount (b .binned) (area b)
+  pub entries : every (possible (b .«in_force» .samples)) sums ≡ true
+
+pub read-out-taken : (b : Board) (sums : List ℤ) (output : List ℕ) → verdict (readOutChecks b sums output) ≡ Taken → ReadOutTaken b sums (length output)
+unfolding verdict
+read-out-taken b sums output e =
+    let n = length output in
+    let a = both-taken (verdict (rampChecks b (length sums))) (verdict (outputChecks b sums n)) (sym (verdict-append (rampChecks b (length sums)) (outputChecks b sums n)) ∙ e) in
+    let p = both-taken _ _ (a .1) in
+    let q = both-taken _ _ (p .1) in
+    let r = both-taken _ Taken (q .1) in
+    record {
+      ramp = ramp-taken b (length sums) (a .0);
+      full = ltb-false _ _ (when-taken _ 15 (p .0));
+      room = eqb-true _ _ (not-false _ (when-taken _ 16 (q .0)));
+      entries = none-fails (possible (b .«in_force» .samples)) sums (pos 0) 14 (r .0);
+    }
+
+pub readable-frame : (b : Board) (sums : List ℤ) (output : List ℕ) → ReadOutTaken b sums (length output)
+    → Readable (b .width) (b .height) (b .binned) (b .«in_force» .truncation) sums output
+unfolding readable
+readable-frame b sums output t =
+    let s = sound-parts b (t .ramp .whole) in
+    let z = sides-of b s in
+    record {
+      pixels = t .ramp .length-is;
+      room = t .room;
+      even = λ e. (z .width .even e, z .height .even e);
+      truncation = true-and (le-leb _ _ (s .in-force .truncation-low)) (le-leb _ _ (s .in-force .truncation-high));
+      entries = every-each readable sums (every-all readable sums (pos 0) (λ i h. possible-readable _ _ (s .in-force .samples-high) (every-at (possible (b .«in_force» .samples)) sums (t .entries) (pos 0) i h))) (pos 0) refl;
+    }

@@ -1,0 +1,127 @@
+-- The laws of the operations: what a taken one leaves is sound, and what each keeps.
+use Prim.Native.Nat.{ℕ}
+use mathlib.Core.Bool.{Bool, true, false, not}
+use mathlib.Core.List.{List, _∷_}
+use mathlib.Core.Path.{_≡_, refl, sym, _∙_}
+use borrow.Author.Tests.{not-false}
+use native.Mathlib.Omega.{arith}
+use lib.IntN.{ℤ}
+use lib.ListN.{length}
+use Rattle.settings.specs.declared.Settings.{Settings}
+use Rattle.settings.specs.Record.{fieldCount}
+use Rattle.settings.specs.Update as Record
+use Rattle.settings.proofs.Parts.{InRange, in-range-parts, in-range-whole}
+use Rattle.settings.proofs.Laws as SettingsLaws
+use Rattle.checks.specs.declared.Refusal.{Refusal}
+use Rattle.checks.specs.declared.Answer.{Answer}
+use Rattle.checks.specs.declared.Answer.the-variants.{Taken, Refused}
+use Rattle.checks.specs.Checks.{when, verdict, byAnswer}
+use Rattle.checks.proofs.Laws.{first-taken, both-taken, when-taken}
+use Rattle.board.specs.declared.Board.{Board}
+use Rattle.board.specs.Board.{sidesTaken, sound, unsound, opened, withWaiting, begun, extended, ended}
+use Rattle.board.specs.Open.{openOf}
+use Rattle.board.specs.Update.{updateChecks, updateOf}
+use Rattle.board.specs.Ramp.{startChecks, startOf, feedChecks, feedOf, readOutChecks, readOutOf, dropChecks, dropOf}
+use Rattle.board.specs.Laws.{BoardLaws}
+use Rattle.board.proofs.Soundness.{Sound, sound-parts, sound-whole}
+use Rattle.board.proofs.Checked.{feed-taken}
+
+-- ---- soundness
+
+-- checks that begin with 99: where what a taken call leaves is sound, so is what the call leaves of a sound board, and only of one
+module _ (b new : Board) (rest : List Answer) (keep : Sound b → verdict (unsound b ∷ rest) ≡ Taken → Sound new) where
+  stays : sound (byAnswer (verdict (unsound b ∷ rest)) new b) ≡ sound b
+  unfolding verdict
+  stays = by (verdict (unsound b ∷ rest)) refl
+    where
+      by : (a : Answer) → verdict (unsound b ∷ rest) ≡ a → sound (byAnswer a new b) ≡ sound b
+      by Taken e =
+          let s = not-false _ (when-taken (not (sound b)) 99 (both-taken (unsound b) (verdict rest) e .0)) in
+          sound-whole new (keep (sound-parts b s) e) ∙ sym s
+      by (Refused r) e = refl
+
+begun-sound : (b : Board) → Sound b → Sound (begun b)
+begun-sound b s = record { sides = s .sides; waiting = s .waiting; in-force = s .waiting; fed = omega arith; idle = refl }
+
+ended-sound : (b : Board) → Sound b → Sound (ended b)
+ended-sound b s = record { sides = s .sides; waiting = s .waiting; in-force = s .in-force; fed = omega arith; idle = refl }
+
+waiting-sound : (b : Board) (t : Settings) → InRange t → Sound b → Sound (withWaiting t b)
+waiting-sound b t r s = record { sides = s .sides; waiting = r; in-force = s .in-force; fed = s .fed; idle = s .idle }
+
+-- the settings of a taken record are in range
+resulting-in-range : (s : Settings) (bytes : List ℕ) → InRange s → verdict (Record.updateChecks bytes) ≡ Taken → InRange (Record.resulting bytes fieldCount s)
+unfolding Record.updateOf
+resulting-in-range s bytes r e =
+    in-range-parts _ (rw e at (SettingsLaws.laws .stays-in-range s bytes (in-range-whole s r)))
+
+update-sound : (b : Board) (bytes : List ℕ) → sound (updateOf b bytes .board) ≡ sound b
+unfolding updateOf verdict
+update-sound b bytes =
+    stays b _ (Record.updateChecks bytes)
+    (λ s e. waiting-sound b _ (resulting-in-range (b .waiting) bytes (s .waiting) (both-taken (unsound b) (verdict (Record.updateChecks bytes)) e .1)) s)
+
+feed-sound : (b : Board) (xs : List ℕ) (sums : List ℤ) → sound (feedOf b xs sums .board) ≡ sound b
+unfolding feedOf
+feed-sound b xs sums =
+    stays b (extended (length xs) b) _
+    (λ s e. let t = feed-taken b xs sums e in
+    record { sides = s .sides; waiting = s .waiting; in-force = s .in-force; fed = t .room; idle = rw (t .ramp .running) })
+
+-- ---- Open
+
+module _ (w h : ℕ) (binned : Bool) where
+  open-sound : (t : Bool) → sidesTaken w h binned ≡ t → sound (byAnswer (when (not t) 1) (opened w h binned) (opened 0 0 false)) ≡ t
+  unfolding sound sidesTaken
+  open-sound true e =
+      let d = in-range-parts _ (SettingsLaws.laws .defaults-in-range) in
+      sound-whole (opened w h binned) (record { sides = e; waiting = d; in-force = d; fed = omega arith; idle = refl })
+  open-sound false e = refl
+
+  open-is : sound (openOf w h binned .board) ≡ sidesTaken w h binned
+  unfolding openOf verdict
+  open-is = rw (first-taken (when (not (sidesTaken w h binned)) 1)) (open-sound (sidesTaken w h binned) refl)
+
+  opened-sound : openOf w h binned .answer ≡ Taken → sound (openOf w h binned .board) ≡ true
+  unfolding openOf verdict
+  opened-sound e = open-is ∙ not-false _ (when-taken _ 1 (both-taken (when (not (sidesTaken w h binned)) 1) Taken e .0))
+
+  refused-unsound : (r : Refusal) → openOf w h binned .answer ≡ Refused r → sound (openOf w h binned .board) ≡ false
+  unfolding openOf verdict
+  refused-unsound r e = open-is ∙ by (sidesTaken w h binned) (sym (first-taken (when (not (sidesTaken w h binned)) 1)) ∙ e)
+    where
+      by : (t : Bool) → when (not t) 1 ≡ Refused r → t ≡ false
+      by true q = let z : _≡_ {A = ℕ} 0 1 = cc in absurd (omega arith)
+      by false q = refl
+
+-- ---- what each keeps
+
+-- a change that leaves both settings alone
+both-kept : (a : Answer) (old new : Board) → (new .waiting ≡ old .waiting) × (new .«in_force» ≡ old .«in_force»)
+    → (byAnswer a new old .waiting ≡ old .waiting) × (byAnswer a new old .«in_force» ≡ old .«in_force»)
+both-kept Taken old new e = e
+both-kept (Refused r) old new e = (refl, refl)
+
+update-waiting : (a : Answer) (b : Board) (t : Settings) → byAnswer a (withWaiting t b) b ≡ withWaiting (byAnswer a (withWaiting t b) b .waiting) b
+update-waiting Taken b t = refl
+update-waiting (Refused r) b t = refl
+
+start-in-force : (a : Answer) (b : Board) → a ≡ Taken → byAnswer a (begun b) b .«in_force» ≡ b .waiting
+start-in-force a b e = rw e
+
+pub laws : BoardLaws
+unfolding updateOf startOf feedOf readOutOf dropOf
+laws = record {
+  opened-sound = opened-sound;
+  refused-unsound = refused-unsound;
+  update-sound = update-sound;
+  start-sound = λ b. stays b (begun b) _ (λ s e. begun-sound b s);
+  feed-sound = feed-sound;
+  read-out-sound = λ b sums output. stays b (ended b) _ (λ s e. ended-sound b s);
+  drop-sound = λ b. stays b (ended b) _ (λ s e. ended-sound b s);
+  update-waiting = λ b bytes. update-waiting (verdict (updateChecks b bytes)) b (Record.resulting bytes fieldCount (b .waiting));
+  start-in-force = λ b e. start-in-force (verdict (startChecks b)) b e;
+  feed-keeps = λ b xs sums. both-kept (verdict (feedChecks b xs sums)) b (extended (length xs) b) (refl, refl);
+  read-out-keeps = λ b sums output. both-kept (verdict (readOutChecks b sums output)) b (ended b) (refl, refl);
+  drop-keeps = λ b. both-kept (verdict (dropChecks b)) b (ended b) (refl, refl);
+}

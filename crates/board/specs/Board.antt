@@ -1,0 +1,77 @@
+-- A board: its sides, what *sound* means, and the parts that the operations change.
+use Prim.Native.Nat.{ℕ, _+_, _*_, _%_}
+use mathlib.Core.Bool.{Bool, true, false, not, _&&_, _||_}
+use lib.Dec.{leb, eqb}
+use Rattle.settings.specs.declared.Settings.{Settings}
+use Rattle.settings.specs.Settings.{defaults, inRange}
+use Rattle.checks.specs.declared.Answer.{Answer}
+use Rattle.checks.specs.Checks.{when, byAnswer}
+use Rattle.board.specs.declared.Board.{Board}
+use Rattle.board.specs.declared.Outcome.{Outcome}
+
+-- "M is width × height"
+abbrev pub area : Board → ℕ
+area b = b .width * b .height
+
+-- N × M, with the N in force: the readings that a ramp wants in all
+abbrev pub wanted : Board → ℕ
+wanted b = b .«in_force» .samples * area b
+
+-- a side is 1 to 1,024, and a binned board's is even
+abbrev pub sideTaken : Bool → ℕ → Bool
+sideTaken binned n = leb 1 n && leb n 1024 && not (binned && eqb (n % 2) 1)
+
+-- "sides that Open would take"
+unfoldable pub sidesTaken : ℕ → ℕ → Bool → Bool
+sidesTaken width height binned = sideTaken binned width && sideTaken binned height
+
+-- "at most N × M readings fed (N in force)"
+abbrev pub fedWithin : Board → Bool
+fedWithin b = leb (b .fed) (wanted b)
+
+-- "none fed while no ramp runs"
+abbrev pub idleUnfed : Board → Bool
+idleUnfed b = b .running || eqb (b .fed) 0
+
+-- *sound*: sides that Open would take, both settings within Update's ranges, and the readings fed as said
+unfoldable pub sound : Board → Bool
+sound b =
+    sidesTaken (b .width) (b .height) (b .binned)
+    && inRange (b .waiting) && inRange (b .«in_force»)
+    && fedWithin b && idleUnfed b
+
+-- "Each operation that is handed a board first gives 99 if the board isn't sound."
+abbrev pub unsound : Board → Answer
+unsound b = when (not (sound b)) 99
+
+-- a board that was just opened: the defaults waiting and in force, no ramp
+abbrev pub opened : ℕ → ℕ → Bool → Board
+opened width height binned = record {
+  width = width;
+  height = height;
+  binned = binned;
+  waiting = defaults;
+  «in_force» = defaults;
+  running = false;
+  fed = 0;
+}
+
+-- other settings wait
+abbrev pub withWaiting : Settings → Board → Board
+withWaiting s b = record { width = b .width; height = b .height; binned = b .binned; waiting = s; «in_force» = b .«in_force»; running = b .running; fed = b .fed }
+
+-- a ramp begins: the waiting settings are in force
+abbrev pub begun : Board → Board
+begun b = record { width = b .width; height = b .height; binned = b .binned; waiting = b .waiting; «in_force» = b .waiting; running = true; fed = 0 }
+
+-- more readings are fed
+abbrev pub extended : ℕ → Board → Board
+extended count b = record { width = b .width; height = b .height; binned = b .binned; waiting = b .waiting; «in_force» = b .«in_force»; running = b .running; fed = b .fed + count }
+
+-- the ramp ends
+abbrev pub ended : Board → Board
+ended b = record { width = b .width; height = b .height; binned = b .binned; waiting = b .waiting; «in_force» = b .«in_force»; running = false; fed = 0 }
+
+-- a taken operation leaves a new board, a refused one the board as it was
+abbrev pub leaves : Answer → Board → Board → Outcome
+leaves answer old new = record { answer = answer; board = byAnswer answer new old }

@@ -1,0 +1,83 @@
+// The parts of a board that the operations change.
+ghost use mathlib.Core.Path.{_≡_};
+ghost use Prim.Native.Nat.{_+_, _^_, _<_};
+ghost use Rattle.board.specs.Board as Def;
+use crate::Board;
+use crate::Outcome;
+use checks::Answer;
+use settings::Settings;
+
+impl Board {
+    // A board that was just opened.
+    pub fn opened(width: usize, height: usize, binned: bool) -> Board
+        ensures { λ r. ⌜ r ≡ Def.opened width height binned ⌝ }
+    {
+        let defaults = Settings::defaults();
+        Board {
+            width: width,
+            height: height,
+            binned: binned,
+            waiting: defaults,
+            in_force: defaults,
+            running: false,
+            fed: 0,
+        }
+    }
+
+    // Other settings wait.
+    pub fn with_waiting(self, settings: Settings) -> Board
+        ensures { λ r. ⌜ r ≡ Def.withWaiting settings self ⌝ }
+    {
+        let mut b = self;
+        b.waiting = settings;
+        b
+    }
+
+    // A ramp begins: the waiting settings are in force.
+    pub fn begun(self) -> Board
+        ensures { λ r. ⌜ r ≡ Def.begun self ⌝ }
+    {
+        let waiting = self.waiting;
+        let mut b = self;
+        b.in_force = waiting;
+        b.running = true;
+        b.fed = 0;
+        b
+    }
+
+    // More readings are fed.
+    pub fn extended(self, count: usize) -> Board
+        requires { ⌜ self .fed + count < 2 ^ 64 ⌝ }
+        ensures { λ r. ⌜ r ≡ Def.extended count self ⌝ }
+    {
+        let mut b = self;
+        b.fed = self.fed + count;
+        b
+    }
+
+    // The ramp ends.
+    pub fn ended(self) -> Board
+        ensures { λ r. ⌜ r ≡ Def.ended self ⌝ }
+    {
+        let mut b = self;
+        b.running = false;
+        b.fed = 0;
+        b
+    }
+}
+
+// A taken operation leaves a new board, a refused one the board as it was.
+pub fn leaves(answer: Answer, old: Board, new: Board) -> Outcome
+    ensures { λ r. ⌜ r ≡ Def.leaves answer old new ⌝ }
+{
+    match answer {
+        Answer::Taken => Outcome {
+            answer: answer,
+            board: new,
+        },
+        Answer::Refused(_) => Outcome {
+            answer: answer,
+            board: old,
+        },
+    }
+}

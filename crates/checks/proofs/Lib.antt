@@ -1,0 +1,3 @@
+-- The laws of checks and of searches.
+pub mod Laws
+pub mod Search

@@ -1,0 +1,3 @@
+-- Checks and answers, as every operation's definition cites them.
+pub mod Search
+pub mod Checks

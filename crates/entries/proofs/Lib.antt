@@ -1,0 +1,4 @@
+-- The laws of entries and readings.
+pub mod Marks
+pub mod Readings
+pub mod Possible

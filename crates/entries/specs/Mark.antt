@@ -1,0 +1,20 @@
+-- A *mark* stands in the place of a sum once a pixel's reading was above the threshold.
+use Prim.Native.Nat.{ℕ, _+_, _-_}
+use mathlib.Core.Bool.{Bool, cond}
+use mathlib.Core.Option.{Option, none, some}
+use lib.Dec.{ltb}
+use lib.IntN.{ℤ, pos, negsuc}
+use lib.Signed.{leZ}
+
+-- "the mark 1,073,741,824 + n", of sample n from 1
+abbrev pub mark : ℕ → ℤ
+mark n = pos (1073741824 + n)
+
+-- an entry from the mark of sample 1 on is marked
+abbrev pub marked : ℤ → Bool
+marked e = leZ (mark 1) e
+
+-- the sample of a marked entry; none for any other
+unfoldable pub sampleOf : ℤ → Option ℕ
+sampleOf (pos e) = cond (ltb 1073741824 e) (some (e - 1073741824)) none
+sampleOf (negsuc e) = none

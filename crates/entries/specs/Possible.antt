@@ -1,0 +1,24 @@
+-- The range of a reading, and which entries are *possible* after k samples.
+use Prim.Native.Nat.{ℕ, _*_}
+use mathlib.Core.Bool.{Bool, _&&_, _||_}
+use lib.Dec.{leb}
+use lib.IntN.{ℤ, pos, _+ℤ_, _-ℤ_}
+use lib.Signed.{leZ}
+use Rattle.entries.specs.Mark.{mark}
+
+-- "A reading is 0 to 16,383."
+abbrev pub maxReading : ℕ
+maxReading = 16383
+
+abbrev pub readingInRange : ℕ → Bool
+readingInRange x = leb x maxReading
+
+-- the largest weight times the largest reading: 245,745
+abbrev pub maxProduct : ℕ
+maxProduct = 15 * maxReading
+
+-- "from 128 − 245,745 × k to 128 + 245,745 × k, or is a mark with n from 1 to k"
+unfoldable pub possible : ℕ → ℤ → Bool
+possible k e =
+    leZ (pos 128 -ℤ pos (k * maxProduct)) e && leZ e (pos 128 +ℤ pos (k * maxProduct))
+    || leZ (mark 1) e && leZ e (mark k)

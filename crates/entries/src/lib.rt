@@ -1,0 +1,92 @@
+// An entry of the sums: a sum, or a mark in its place.
+ghost use mathlib.Core.Path.{_≡_};
+ghost use mathlib.Core.Bool.{not};
+ghost use Prim.Native.Nat.{_≤_};
+ghost use lib.Dec.{ltb};
+ghost use lib.IntN.{pos};
+ghost use lib.ListN.{length, getD};
+ghost use Rattle.laws.specs.Lists.{every};
+ghost use Rattle.checks.specs.Search.{firstPlace};
+ghost use Rattle.entries.specs.Possible.{maxReading, readingInRange, possible};
+use checks::Found;
+
+// The mark of sample n is this and n more.
+pub const MARK: i32 = 1073741824;
+
+pub const MAX_READING: u16 = 16383;
+
+// The largest weight times the largest reading.
+const MAX_PRODUCT: i32 = 245745;
+
+// Whether an entry is possible after k samples.
+fn is_possible(entry: i32, k: usize) -> bool
+    requires { ⌜ k ≤ 9 ⌝ }
+    ensures { λ r. ⌜ r ≡ possible k entry ⌝ }
+{
+    let samples = k as i32;
+    let span = samples * MAX_PRODUCT;
+    (128 - span <= entry) & (entry <= 128 + span) | (MARK + 1 <= entry) & (entry <= MARK + samples)
+}
+
+// Whether each entry is, with no early exit.
+fn all_possible(sums: &[i32], k: usize) -> bool
+    requires { ⌜ k ≤ 9 ⌝ }
+    ensures { λ r. ⌜ r ≡ every (possible k) (now (sums .entry)) ⌝ }
+{
+    let mut ok = true;
+    let mut i = 0;
+    while i < sums.len() {
+        ok = ok & is_possible(sums[i], k);
+        i += 1;
+    }
+    ok
+}
+
+// The place of the first entry that isn't possible after k samples.
+pub fn first_impossible(sums: &[i32], k: usize) -> Found
+    requires { ⌜ k ≤ 9 ⌝ }
+    ensures { λ r. ⌜ r ≡ firstPlace (length (now (sums .entry))) (λ p. not (possible k (getD (now (sums .entry)) p (pos 0)))) ⌝ }
+{
+    if all_possible(sums, k) {
+        return Found::Nothing;
+    }
+    let mut i = 0;
+    while i < sums.len() {
+        if is_possible(sums[i], k) {
+            i += 1;
+        } else {
+            return Found::At(i);
+        }
+    }
+    Found::Nothing
+}
+
+// Whether each reading is in range: none is where all of them together have a higher bit.
+fn all_in_range(readings: &[u16]) -> bool
+    ensures { λ r. ⌜ r ≡ every readingInRange (now (readings .entry)) ⌝ }
+{
+    let mut bits: u16 = 0;
+    let mut i = 0;
+    while i < readings.len() {
+        bits = bits | readings[i];
+        i += 1;
+    }
+    bits <= MAX_READING
+}
+
+// The place of the first reading above the largest.
+pub fn first_above(readings: &[u16]) -> Found
+    ensures { λ r. ⌜ r ≡ firstPlace (length (now (readings .entry))) (λ i. not (readingInRange (getD (now (readings .entry)) i 0))) ⌝ }
+{
+    if all_in_range(readings) {
+        return Found::Nothing;
+    }
+    let mut i = 0;
+    while i < readings.len() {
+        if readings[i] > MAX_READING {
+            return Found::At(i);
+        }
+        i += 1;
+    }
+    Found::Nothing
+}

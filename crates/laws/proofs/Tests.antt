@@ -1,0 +1,43 @@
+-- Tests: what a conjunction or a disjunction says, and back; and reasoning by a test's value.
+use Prim.Native.Nat.{ℕ}
+use mathlib.Core.Bool.{Bool, true, false, cond, _&&_, _||_}
+use mathlib.Core.Logic.{_⊎_, inl, inr}
+use mathlib.Core.Path.{_≡_, refl}
+use native.Mathlib.Omega.{arith}
+use lib.Dec.{T}
+
+-- a test is not both
+pub clash : {A : Type 0} → true ≡ false → A
+clash e = let z : _≡_ {A = ℕ} 0 1 = cc in absurd (omega arith)
+
+-- by a test's value
+pub cases : {A : Type 0} (t : Bool) → (t ≡ true → A) → (t ≡ false → A) → A
+cases true p q = p refl
+cases false p q = q refl
+
+pub is-true : (t : Bool) → T t → t ≡ true
+is-true true h = refl
+is-true false h = absurd h
+
+pub and-true : (a b : Bool) → a && b ≡ true → (a ≡ true) × (b ≡ true)
+and-true true b e = (refl, e)
+and-true false b e = (e, cc)
+
+pub true-and : {a b : Bool} → a ≡ true → b ≡ true → a && b ≡ true
+true-and p q = rw (p, q)
+
+pub and-assoc : (a b c : Bool) → a && b && c ≡ a && (b && c)
+and-assoc true b c = refl
+and-assoc false b c = refl
+
+pub and-right : (a : Bool) → a && true ≡ a
+and-right true = refl
+and-right false = refl
+
+pub or-true : (a b : Bool) → a || b ≡ true → (a ≡ true) ⊎ (b ≡ true)
+or-true true b e = inl refl
+or-true false b e = inr e
+
+pub or-right : (a : Bool) → a || true ≡ true
+or-right true = refl
+or-right false = refl

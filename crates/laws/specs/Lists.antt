@@ -1,0 +1,26 @@
+-- Lists: one made by a rule, a test of each element, a total.
+use Prim.Native.Nat.{ℕ, zero, suc}
+use mathlib.Core.Bool.{Bool, true, _&&_}
+use mathlib.Core.List.{List, [], _∷_, _++_}
+use lib.IntN.{ℤ, pos, _+ℤ_}
+
+-- f 0, f 1, .. f (n − 1)
+unfoldable pub each : {A : Type 0} → (ℕ → A) → ℕ → List A
+each f zero = []
+each f (suc n) = each f n ++ (f n ∷ [])
+
+-- whether the test holds of every element
+unfoldable pub every : {A : Type 0} → (A → Bool) → List A → Bool
+every test [] = true
+every test (x ∷ xs) = test x && every test xs
+
+-- the total of a list
+unfoldable pub total : List ℤ → ℤ
+total [] = pos 0
+total (x ∷ xs) = x +ℤ total xs
+
+-- f at each place that the list xs reaches; the places past it stay as they were
+unfoldable pub over : {A B : Type 0} → (A → B → B) → List A → List B → List B
+over f [] ys = ys
+over f (x ∷ xs) [] = []
+over f (x ∷ xs) (y ∷ ys) = f x y ∷ over f xs ys

@@ -1,0 +1,59 @@
+-- The laws of `feedAll`, for any kind of entry and any step.
+--     feed-length     it keeps the length
+--     feed-append     some readings, and then some more
+--     feed-part       readings that stay within one sample: `over` at the part of the sums that they reach
+use Prim.Native.Nat.{ℕ, zero, suc, _+_, _*_, _/_, _%_, _≤_, _<_}
+use mathlib.Core.List.{List, [], _∷_, _++_, append-assoc}
+use mathlib.Core.Path.{_≡_, refl, sym, ap, _∙_}
+use native.Mathlib.Nat.{add-zero, add-suc, suc-add}
+use native.Mathlib.Omega.{arith}
+use lib.Arith.{digits-div, digits-mod}
+use lib.ListN.{length, getD, take, drop, set, length-set, take-append-drop}
+use lib.Seq.{take-suc-set, drop-set-lt, drop-cons, append-snoc}
+use Rattle.laws.specs.Lists.{over}
+use Rattle.laws.proofs.Over.{over-part}
+use Rattle.ramp.specs.Feed.{feedOne, feedAll}
+
+module _ {E : Type 0} (none : E) (step : ℕ → E → ℕ → E) (m : ℕ) where
+  abbrev one : ℕ → ℕ → List E → List E
+  one = feedOne none step m
+
+  abbrev all : ℕ → List ℕ → List E → List E
+  all = feedAll none step m
+
+  pub one-length : (f x : ℕ) (ss : List E) → length (one f x ss) ≡ length ss
+  unfolding feedOne
+  one-length f x ss = simp length-set
+
+  pub feed-length : (xs : List ℕ) (f : ℕ) (ss : List E) → length (all f xs ss) ≡ length ss
+  unfolding feedAll
+  feed-length [] f ss = refl
+  feed-length (x ∷ xs) f ss = feed-length xs (suc f) (one f x ss) ∙ one-length f x ss
+
+  pub feed-append : (xs ys : List ℕ) (f : ℕ) (ss : List E) → all f (xs ++ ys) ss ≡ all (f + length xs) ys (all f xs ss)
+  unfolding feedAll
+  feed-append [] ys f ss = rw add-zero
+  feed-append (x ∷ xs) ys f ss = rw (add-suc, ← suc-add) (feed-append xs ys (suc f) (one f x ss))
+
+  module _ (n : ℕ) where
+    -- what sample n + 1 does to an entry
+    abbrev at-sample : ℕ → E → E
+    at-sample x e = step (suc n) e x
+
+    one-sample : (xs : List ℕ) (p : ℕ) (ss : List E) → length ss ≡ m → p + length xs ≤ m
+        → all (n * m + p) xs ss ≡ take p ss ++ over at-sample xs (drop p ss)
+    unfolding feedAll feedOne over
+    one-sample [] p ss l h = sym (take-append-drop p ss)
+    one-sample (x ∷ xs) p ss l h =
+        let q : p < m = omega arith in
+        let r : p < length ss = omega arith in
+        let v = at-sample x (getD ss p none) in
+        rw (← add-suc, digits-mod n q, digits-div n q)
+        (one-sample xs (suc p) (set ss p v) (simp length-set l) (omega arith)
+        ∙ rw (take-suc-set ss p v r, drop-set-lt (suc p) ss p v (omega arith), drop-cons ss p none r)
+        (append-assoc (take p ss) (v ∷ []) (over at-sample xs (drop (suc p) ss))))
+
+    pub feed-part : (p k : ℕ) (xs : List ℕ) (ss : List E) → length ss ≡ m → length xs ≤ k → p + k ≤ m
+        → take p ss ++ (over at-sample xs (take k (drop p ss)) ++ drop k (drop p ss)) ≡ all (n * m + p) xs ss
+    feed-part p k xs ss l h q =
+        ap (λ (y : List E). take p ss ++ y) (over-part at-sample k xs (drop p ss) h) ∙ sym (one-sample xs p ss l (omega arith))

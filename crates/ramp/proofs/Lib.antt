@@ -1,0 +1,11 @@
+-- The laws of a ramp.
+pub mod Steps
+pub mod Places
+pub mod Feeding
+pub mod Ready
+pub mod Turn
+pub mod Bounds
+pub mod Pixel
+pub mod Agrees
+pub mod Intervals
+pub mod Laws

@@ -1,0 +1,64 @@
+-- One pixel's entry, sample after sample.
+--     entry-step          a step takes the entry of k samples to that of k + 1; sample 1 takes any entry
+--     entry-same          the entry of k samples turns on the readings of those alone
+--     entry-possible      it is possible for k
+use Prim.Native.Nat.{ℕ, zero, suc, _≤_, _<_}
+use mathlib.Core.Bool.{Bool, true, false, cond}
+use mathlib.Core.Option.{Option, none, some}
+use mathlib.Core.Path.{_≡_, refl}
+use borrow.Author.Tests.{ltb-false}
+use native.Mathlib.Omega.{arith}
+use lib.IntN.{ℤ, pos, _+ℤ_, +ℤ-assoc}
+use Rattle.laws.specs.Numbers.{orElse, firstOf, sumTo}
+use Rattle.laws.proofs.Ints.{not-le}
+use Rattle.laws.proofs.Firsts.{Says, first-says, first-same, sum-same}
+use Rattle.settings.specs.declared.Settings.{Settings}
+use Rattle.settings.specs.Settings.{weightAt}
+use Rattle.settings.proofs.Parts.{InRange}
+use Rattle.entries.specs.Mark.{mark}
+use Rattle.entries.specs.Possible.{readingInRange, possible}
+use Rattle.entries.proofs.Marks.{is-marked}
+use Rattle.ramp.specs.Step.{overIt, onGround, step}
+use Rattle.ramp.specs.Exact.{exactSum, firstOver, markedBy, entryAfter}
+use Rattle.ramp.proofs.Steps.{possible-step}
+use Rattle.ramp.proofs.Bounds.{part, below-marks}
+
+module _ (s : Settings) (r : InRange s) (x : ℕ → ℕ) where
+  abbrev over : ℕ → Bool
+  over n = overIt s n (x n)
+
+  ground-step : (k : ℕ) → onGround (weightAt s (suc k)) (over (suc k)) (mark (suc k)) (entryAfter s k x) (x (suc k)) ≡ entryAfter s (suc k) x
+  unfolding firstOf sumTo
+  ground-step k = by (firstOver s k x) (first-says over k)
+    where
+      z : ℤ
+      z = exactSum s k x
+
+      last : (b : Bool) → cond b (mark (suc k)) (z +ℤ part s x (suc k)) ≡ markedBy (cond b (some (suc k)) none) (pos 128 +ℤ (sumTo k (part s x) +ℤ part s x (suc k)))
+      last true = refl
+      last false = +ℤ-assoc (pos 128) (sumTo k (part s x)) (part s x (suc k))
+
+      by : (o : Option ℕ) → Says over k o
+          → onGround (weightAt s (suc k)) (over (suc k)) (mark (suc k)) (markedBy o z) (x (suc k))
+          ≡ markedBy (orElse o (cond (over (suc k)) (some (suc k)) none)) (pos 128 +ℤ (sumTo k (part s x) +ℤ part s x (suc k)))
+      by (some n) f = rw (is-marked n (f .low))
+      by none f =
+          rw (not-le (mark 1) z (omega (arith, below-marks s r x k (λ n a l. ltb-false (s .threshold) (x n) (f n a l))))) (last (over (suc k)))
+
+  pub entry-step : (k : ℕ) (e : ℤ) → (1 ≤ k → e ≡ entryAfter s k x) → step s (suc k) e (x (suc k)) ≡ entryAfter s (suc k) x
+  unfolding step firstOf sumTo
+  entry-step zero e q = ground-step 0
+  entry-step (suc k) e q = rw (q (omega arith)) (ground-step (suc k))
+
+  pub entry-possible : ((n : ℕ) → readingInRange (x n) ≡ true) → (k : ℕ) → k ≤ 9 → 0 < k → possible k (entryAfter s k x) ≡ true
+  entry-possible ok zero few l = absurd (omega arith)
+  entry-possible ok (suc k) few l =
+      rw (← entry-step k (entryAfter s k x) (λ l. refl))
+      (possible-step s r k (entryAfter s k x) (x (suc k)) (omega arith) (ok (suc k)) (entry-possible ok k (omega arith)))
+
+pub entry-same : (s : Settings) (x y : ℕ → ℕ) (k : ℕ) → ((n : ℕ) → 1 ≤ n → n ≤ k → x n ≡ y n) → entryAfter s k x ≡ entryAfter s k y
+entry-same s x y k h =
+    rw (
+      first-same (λ n. overIt s n (x n)) (λ n. overIt s n (y n)) k (λ n a l. rw (h n a l)),
+      sum-same (part s x) (part s y) k (λ n a l. rw (h n a l)),
+    )

@@ -1,0 +1,63 @@
+-- One turn of Feed's loop, which has fed the first i readings: it feeds the next k, which stay within one sample.
+use Prim.Native.Nat.{ℕ, suc, _+_, _-_, _/_, _%_, _≤_, _<_}
+use mathlib.Core.Bool.{true}
+use mathlib.Core.List.{List, _++_}
+use mathlib.Core.Path.{_≡_, refl, _∙_}
+use native.Mathlib.Omega.{arith}
+use lib.IntN.{ℤ, pos}
+use lib.ListN.{length, take, drop}
+use lib.Seq.{take-add, length-take-le}
+use Rattle.laws.specs.Lists.{every, over}
+use Rattle.laws.proofs.Every.{every-all, every-take}
+use Rattle.laws.proofs.Parts.{part-length, part-at}
+use Rattle.settings.specs.declared.Settings.{Settings}
+use Rattle.settings.proofs.Parts.{in-range-parts}
+use Rattle.entries.specs.Possible.{readingInRange, possible}
+use Rattle.ramp.specs.Step.{step}
+use Rattle.ramp.specs.Feed.{feedAll, Ready, Feedable}
+use Rattle.ramp.proofs.Steps.{possible-step}
+use Rattle.ramp.proofs.Places.{place}
+use Rattle.ramp.proofs.Feeding.{feed-length, feed-append, feed-part}
+use Rattle.ramp.proofs.Ready.{ready-all}
+
+module _ (s : Settings) (f : ℕ) (xs : List ℕ) (ss : List ℤ) (h : Feedable s f xs ss) (i k : ℕ) (hk : i + k ≤ length xs) (hp : (f + i) % length ss + k ≤ length ss) where
+  abbrev m : ℕ
+  m = length ss
+
+  abbrev n : ℕ
+  n = (f + i) / m
+
+  abbrev p : ℕ
+  p = (f + i) % m
+
+  -- the sums after the first i readings
+  abbrev sums : List ℤ
+  sums = feedAll (pos 0) (step s) m f (take i xs) ss
+
+  taken : length (take i xs) ≡ i
+  taken = length-take-le i xs (omega arith)
+
+  whole : length sums ≡ m
+  whole = feed-length (pos 0) (step s) m (take i xs) f ss
+
+  ready : Ready (pos 0) possible m (f + i) (length xs - i) sums
+  ready =
+      let c : length (take i xs) + (length xs - i) ≡ length xs = rw taken (omega arith) in
+      rw taken at (ready-all (pos 0) (step s) possible m (h .some) (possible-step s (in-range-parts s (h .settings))) (take i xs) f (length xs - i) ss (every-take readingInRange i xs (h .readings)) (rw taken (omega (arith, h .room))) refl (rw c (h .entries)))
+
+  pub turn-possible : (j : ℕ) → 1 ≤ j → n + 1 ≡ suc j → every (possible j) (take k (drop p sums)) ≡ true
+  unfolding Ready
+  turn-possible j l e =
+      let a = place (f + i) m (h .some) in
+      let b : n ≡ j = omega arith in
+      every-all (possible j) (take k (drop p sums)) (pos 0)
+      (λ q t.
+      let u : q < k = rw (part-length sums p k (rw whole hp)) at t in
+      rw (part-at sums p k q (pos 0) u, ← b) (ready (p + q) n (omega arith) (omega arith) (omega arith) (omega arith) (omega arith)))
+
+  pub turn-next : take p sums ++ (over (λ x e. step s (suc n) e x) (take k (drop i xs)) (take k (drop p sums)) ++ drop k (drop p sums))
+      ≡ feedAll (pos 0) (step s) m f (take (i + k) xs) ss
+  turn-next =
+      let e : length (take k (drop i xs)) ≡ k = part-length xs i k hk in
+      feed-part (pos 0) (step s) m n p k (take k (drop i xs)) sums whole (rw e (omega arith)) hp
+      ∙ rw (place (f + i) m (h .some) .0, take-add i k xs, feed-append (pos 0) (step s) m (take i xs) (take k (drop i xs)) f ss, taken)

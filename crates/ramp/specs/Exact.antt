@@ -1,0 +1,33 @@
+-- What a pixel's readings come to. A pixel's readings are given by sample, counted from 1.
+use Prim.Native.Nat.{ℕ, zero, suc, _+_, _*_}
+use mathlib.Core.List.{List}
+use mathlib.Core.Option.{Option, none, some}
+use lib.IntN.{ℤ, pos, _+ℤ_, _*ℤ_}
+use lib.ListN.{getD}
+use Rattle.laws.specs.Numbers.{sumTo, firstOf}
+use Rattle.settings.specs.declared.Settings.{Settings}
+use Rattle.settings.specs.Settings.{weightAt}
+use Rattle.entries.specs.Mark.{mark}
+use Rattle.ramp.specs.Step.{overIt}
+
+-- "the readings, counted from 0, hold pixel p (from 0) at sample n as number (n − 1) × M + p"
+abbrev pub readingOf : ℕ → List ℕ → ℕ → ℕ → ℕ
+readingOf m readings p zero = 0
+readingOf m readings p (suc i) = getD readings (i * m + p) 0
+
+-- "128 plus the total of weight n × its reading n for n from 1 to" k
+abbrev pub exactSum : Settings → ℕ → (ℕ → ℕ) → ℤ
+exactSum s k reading = pos 128 +ℤ sumTo k (λ n. weightAt s n *ℤ pos (reading n))
+
+-- the first sample up to k whose reading is over the threshold
+abbrev pub firstOver : Settings → ℕ → (ℕ → ℕ) → Option ℕ
+firstOver s k reading = firstOf k (λ n. overIt s n (reading n))
+
+-- the mark of the first sample over the threshold, or a sum
+abbrev pub markedBy : Option ℕ → ℤ → ℤ
+markedBy (some n) sum = mark n
+markedBy none sum = sum
+
+-- the entry of a pixel after k samples
+abbrev pub entryAfter : Settings → ℕ → (ℕ → ℕ) → ℤ
+entryAfter s k reading = markedBy (firstOver s k reading) (exactSum s k reading)

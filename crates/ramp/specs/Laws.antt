@@ -1,0 +1,36 @@
+-- What must be true of a ramp, beside the contracts. `proofs/Laws.antt` shows it.
+use Prim.Native.Nat.{ℕ, suc, _+_, _*_, _≤_, _<_}
+use mathlib.Core.Bool.{true}
+use mathlib.Core.List.{List, _++_}
+use mathlib.Core.Logic.{_↔_}
+use mathlib.Core.Path.{_≡_}
+use lib.IntN.{ℤ, pos}
+use lib.ListN.{length, getD}
+use lib.Signed.{_≤ℤ_}
+use Rattle.settings.specs.declared.Settings.{Settings}
+use Rattle.settings.specs.Settings.{inRange}
+use Rattle.settings.specs.Covered.{ceiling, isCovered}
+use Rattle.entries.specs.Possible.{readingInRange, possible}
+use Rattle.ramp.specs.Step.{step}
+use Rattle.ramp.specs.Feed.{feedAll}
+use Rattle.ramp.specs.Exact.{readingOf, exactSum, entryAfter}
+
+-- the sums after readings from number f on
+abbrev pub fed : Settings → ℕ → ℕ → List ℕ → List ℤ → List ℤ
+fed s m f xs sums = feedAll (pos 0) (step s) m f xs sums
+
+pub record RampLaws : Type 0 where
+  -- a step takes an entry that is possible for k to one that is possible for k + 1; sample 1 takes any entry to one that is possible for 1
+  pub stays-possible : (s : Settings) → inRange s ≡ true → (k : ℕ) (e : ℤ) (x : ℕ) → k ≤ 8 → readingInRange x ≡ true
+      → (0 < k → possible k e ≡ true) → possible (suc k) (step s (suc k) e x) ≡ true
+  -- some readings, and then some more
+  pub in-two : (s : Settings) (m f : ℕ) (xs ys : List ℕ) (sums : List ℤ) → fed s m f (xs ++ ys) sums ≡ fed s m (f + length xs) ys (fed s m f xs sums)
+  -- a pixel that has had k samples of a ramp, and no more, holds the mark of its first sample over the threshold, or else its exact sum; whatever stood there before
+  pub entry-is : (s : Settings) → inRange s ≡ true → (m : ℕ) (xs : List ℕ) (sums : List ℤ) → length sums ≡ m
+      → (p k : ℕ) → p < m → k ≤ 8 → k * m + p < length xs → length xs ≤ k * m + p + m
+      → getD (fed s m 0 xs sums) p (pos 0) ≡ entryAfter s (suc k) (readingOf m xs p)
+  -- settings are covered exactly where no readings at or below the threshold, one per sample, have an exact sum of 32,752 × 2^r or more
+  pub covered-is : (s : Settings)
+      → (isCovered s ≡ true)
+      ↔ ((reading : ℕ → ℕ) → ((n : ℕ) → 1 ≤ n → n ≤ s .samples → reading n ≤ s .threshold)
+      → pos (ceiling (s .truncation)) ≤ℤ exactSum s (s .samples) reading → ⊥)

@@ -1,0 +1,39 @@
+// Check 14 of Feed: of the entries that the ramp has written and that this Feed brings a reading for, the first that isn't possible.
+ghost use mathlib.Core.Path.{_≡_};
+ghost use mathlib.Core.Bool.{not};
+ghost use Prim.Native.Nat.{_+_, _*_, _-_, _≤_, _<_, min};
+ghost use lib.IntN.{pos};
+ghost use lib.ListN.{length, getD};
+ghost use Rattle.checks.specs.Search.{firstPlace, shifted};
+ghost use Rattle.entries.specs.Possible.{possible};
+ghost use Rattle.ramp.specs.Stale.{staleAt};
+use crate::numbers::beyond;
+use crate::numbers::least;
+use checks::Found;
+use entries::first_impossible;
+
+// The first from `start` to `end` that isn't possible for k.
+fn first_between(sums: &[i32], start: usize, end: usize, k: usize) -> Found
+    requires { ⌜ (start ≤ end) × (end ≤ length (now sums)) × (k ≤ 9) ⌝ }
+    ensures { λ r. ⌜ r ≡ shifted start (firstPlace (end - start) (λ i. not (possible k (getD (now (sums .entry)) (start + i) (pos 0))))) ⌝ }
+{
+    first_impossible(&sums[start..end], k).shifted(start)
+}
+
+// The pixels before q have had c + 1 samples, and the first of them get another reading; those from q on have had c.
+pub fn first_stale(sums: &[i32], fed: usize, count: usize) -> Found
+    requires { ⌜ (0 < length (now sums)) × (length (now sums) ≤ 1048576) × (fed + count ≤ 9 * length (now sums)) ⌝ }
+    ensures { λ r. ⌜ r ≡ firstPlace (length (now (sums .entry))) (staleAt (pos 0) possible (length (now (sums .entry))) fed count (now (sums .entry))) ⌝ }
+{
+    if count == 0 {
+        return Found::Nothing;
+    }
+    let m = sums.len();
+    let c = fed / m;
+    let q = fed % m;
+    let low = first_between(sums, 0, least(q, beyond(q + count, m)), c + 1);
+    if c == 0 {
+        return low;
+    }
+    low.or_else(first_between(sums, q, least(q + count, m), c))
+}

@@ -1,0 +1,52 @@
+-- What `inRange` says of each setting, and back.
+use Prim.Native.Nat.{ℕ, _≤_}
+use mathlib.Core.Bool.{true}
+use mathlib.Core.Path.{_≡_, refl}
+use borrow.Author.Tests.{leb-true, le-leb, eqb-true, eq-eqb}
+use lib.IntN.{pos}
+use lib.ListN.{length, getD}
+use Rattle.laws.proofs.Tests.{and-true}
+use Rattle.laws.proofs.Every.{every-all, every-each}
+use Rattle.settings.specs.declared.Settings.{Settings}
+use Rattle.settings.specs.Settings.{weightInRange, maxThreshold, inRange}
+
+pub record InRange (s : Settings) : Type 0 where
+  pub nine : length (s .weights) ≡ 9
+  pub weights : (i : ℕ) → weightInRange (getD (s .weights) i (pos 0)) ≡ true
+  pub threshold : s .threshold ≤ maxThreshold
+  pub truncation-low : 1 ≤ s .truncation
+  pub truncation-high : s .truncation ≤ 3
+  pub samples-low : 1 ≤ s .samples
+  pub samples-high : s .samples ≤ 9
+
+pub in-range-parts : (s : Settings) → inRange s ≡ true → InRange s
+unfolding inRange
+in-range-parts s e =
+    let a = and-true _ _ e in
+    let n = and-true _ _ (a .1) in
+    let b = and-true _ _ (a .0) in
+    let r = and-true _ _ (b .1) in
+    let c = and-true _ _ (b .0) in
+    let w = and-true _ _ (c .0) in
+    record {
+      nine = eqb-true _ _ (w .0);
+      weights = every-each weightInRange (s .weights) (w .1) (pos 0) refl;
+      threshold = leb-true _ _ (c .1);
+      truncation-low = leb-true _ _ (r .0);
+      truncation-high = leb-true _ _ (r .1);
+      samples-low = leb-true _ _ (n .0);
+      samples-high = leb-true _ _ (n .1);
+    }
+
+pub in-range-whole : (s : Settings) → InRange s → inRange s ≡ true
+unfolding inRange
+in-range-whole s p =
+    rw (
+      eq-eqb _ _ (p .nine),
+      every-all weightInRange (s .weights) (pos 0) (λ i h. p .weights i),
+      le-leb _ _ (p .threshold),
+      le-leb _ _ (p .truncation-low),
+      le-leb _ _ (p .truncation-high),
+      le-leb _ _ (p .samples-low),
+      le-leb _ _ (p .samples-high),
+    )

@@ -1,0 +1,29 @@
+-- "Covered".
+use Prim.Native.Nat.{ℕ, zero, suc, _+_, _*_, _^_}
+use mathlib.Core.Bool.{Bool}
+use lib.Dec.{ltb}
+use lib.IntN.{ℤ, pos, negsuc}
+use Rattle.settings.specs.declared.Settings.{Settings}
+use Rattle.settings.specs.Settings.{weightAt}
+
+-- a positive weight, or 0 for any other
+abbrev pub positivePart : ℤ → ℕ
+positivePart (pos w) = w
+positivePart (negsuc w) = 0
+
+-- "the total of the positive weights among the first n"
+unfoldable pub positives : Settings → ℕ → ℕ
+positives s zero = 0
+positives s (suc n) = positives s n + positivePart (weightAt s (suc n))
+
+-- 128 + P × T: no readings at or below the threshold have a larger sum
+abbrev pub reach : Settings → ℕ
+reach s = 128 + positives s (s .samples) * s .threshold
+
+-- the first sum that no ordinary word stands for: 32,752 × 2^r
+abbrev pub ceiling : ℕ → ℕ
+ceiling r = 32752 * 2 ^ r
+
+-- "covered if 128 + P × T < 32,752 × 2^r"
+unfoldable pub isCovered : Settings → Bool
+isCovered s = ltb (reach s) (ceiling (s .truncation))

@@ -1,0 +1,54 @@
+-- "The board and its settings": the defaults, the ranges, and the weight of a sample.
+use Prim.Native.Nat.{ℕ, zero, suc}
+use mathlib.Core.Bool.{Bool, _&&_}
+use mathlib.Core.List.{List, [], _∷_}
+use lib.Dec.{leb, eqb}
+use lib.IntN.{ℤ, pos, negℤ}
+use lib.ListN.{length, getD}
+use lib.Signed.{leZ}
+use Rattle.laws.specs.Lists.{every}
+use Rattle.settings.specs.declared.Settings.{Settings}
+
+-- "weights −4, −3, −2, −1, 0, 1, 2, 3, 4; r = 2; N = 9; threshold 16,383"
+abbrev pub defaults : Settings
+defaults = record {
+  weights = negℤ (pos 4) ∷ negℤ (pos 3) ∷ negℤ (pos 2) ∷ negℤ (pos 1) ∷ pos 0 ∷ pos 1 ∷ pos 2 ∷ pos 3 ∷ pos 4 ∷ [];
+  threshold = 16383;
+  truncation = 2;
+  samples = 9;
+}
+
+-- a weight has a magnitude of four bits: −15 to 15
+abbrev pub weightInRange : ℤ → Bool
+weightInRange w = leZ (negℤ (pos 15)) w && leZ w (pos 15)
+
+abbrev pub maxThreshold : ℕ
+maxThreshold = 16383
+
+abbrev pub thresholdInRange : ℕ → Bool
+thresholdInRange t = leb t maxThreshold
+
+-- r is 1 to 3
+abbrev pub truncationInRange : ℕ → Bool
+truncationInRange r = leb 1 r && leb r 3
+
+-- "N is 1 to 9"
+abbrev pub samplesInRange : ℕ → Bool
+samplesInRange n = leb 1 n && leb n 9
+
+-- "nine weights held together in order"
+abbrev pub weightsInRange : List ℤ → Bool
+weightsInRange ws = eqb (length ws) 9 && every weightInRange ws
+
+-- settings within Update's ranges
+unfoldable pub inRange : Settings → Bool
+inRange s =
+    weightsInRange (s .weights)
+    && thresholdInRange (s .threshold)
+    && truncationInRange (s .truncation)
+    && samplesInRange (s .samples)
+
+-- weight n, for samples n from 1
+abbrev pub weightAt : Settings → ℕ → ℤ
+weightAt s zero = pos 0
+weightAt s (suc i) = getD (s .weights) i (pos 0)

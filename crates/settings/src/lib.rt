@@ -1,0 +1,52 @@
+// The settings of a ramp board, the update record that changes them, and the covered question.
+ghost use mathlib.Core.Path.{_≡_};
+ghost use Rattle.settings.specs.Settings as Def;
+use checks::Answer;
+
+mod covered;
+pub mod ranges;
+mod record;
+mod update;
+
+pub struct Settings {
+    pub weights: [i32; 9],
+    pub threshold: u16,
+    pub truncation: u16,
+    pub samples: u16,
+}
+
+// A field of an update record. `Weight(i)` is weight i + 1.
+pub enum Field {
+    Weight(usize),
+    Threshold,
+    Truncation,
+    Samples,
+}
+
+// What an update answers, with the settings as it leaves them.
+pub struct Updated {
+    pub answer: Answer,
+    pub settings: Settings,
+}
+
+impl Settings {
+    pub const WEIGHTS: [i32; 9] = [-4, -3, -2, -1, 0, 1, 2, 3, 4];
+
+    pub const THRESHOLD: u16 = 16383;
+
+    pub const TRUNCATION: u16 = 2;
+
+    pub const SAMPLES: u16 = 9;
+
+    // The settings at opening.
+    pub fn defaults() -> Settings
+        ensures { λ r. ⌜ r ≡ Def.defaults ⌝ }
+    {
+        Settings {
+            weights: Settings::WEIGHTS,
+            threshold: Settings::THRESHOLD,
+            truncation: Settings::TRUNCATION,
+            samples: Settings::SAMPLES,
+        }
+    }
+}

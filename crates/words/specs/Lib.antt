@@ -1,0 +1,5 @@
+-- The words of a frame, and what a word means.
+pub mod Word
+pub mod Frame
+pub mod Reading
+pub mod Laws
