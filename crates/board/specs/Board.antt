@@ -9,7 +9,7 @@ use Rattle.checks.specs.Checks.{when, byAnswer}
 use Rattle.board.specs.declared.Board.{Board}
 use Rattle.board.specs.declared.Outcome.{Outcome}
 
--- "M is width × height"
+-- M: the number of pixels
 abbrev pub area : Board → ℕ
 area b = b .width * b .height
 
@@ -21,26 +21,26 @@ wanted b = b .«in_force» .samples * area b
 abbrev pub sideTaken : Bool → ℕ → Bool
 sideTaken binned n = leb 1 n && leb n 1024 && not (binned && eqb (n % 2) 1)
 
--- "sides that Open would take"
+-- the sides of a board that Open takes
 unfoldable pub sidesTaken : ℕ → ℕ → Bool → Bool
 sidesTaken width height binned = sideTaken binned width && sideTaken binned height
 
--- "at most N × M readings fed (N in force)"
+-- no more readings are fed than the ramp wants
 abbrev pub fedWithin : Board → Bool
 fedWithin b = leb (b .fed) (wanted b)
 
--- "none fed while no ramp runs"
+-- with no ramp running, nothing is fed
 abbrev pub idleUnfed : Board → Bool
 idleUnfed b = b .running || eqb (b .fed) 0
 
--- *sound*: sides that Open would take, both settings within Update's ranges, and the readings fed as said
+-- *sound*: Open takes the sides, Update could leave the settings, waiting and in force, and the count of readings fits
 unfoldable pub sound : Board → Bool
 sound b =
     sidesTaken (b .width) (b .height) (b .binned)
     && inRange (b .waiting) && inRange (b .«in_force»)
     && fedWithin b && idleUnfed b
 
--- "Each operation that is handed a board first gives 99 if the board isn't sound."
+-- the first check of every operation that is handed a board: 99 if it isn't sound
 abbrev pub unsound : Board → Answer
 unsound b = when (not (sound b)) 99
 

@@ -1,4 +1,4 @@
--- "Covered has only 99."
+-- Covered: its one refusal is 99.
 use mathlib.Core.Bool.{Bool, cond}
 use mathlib.Core.List.{List, [], _∷_}
 use Rattle.settings.specs.Covered.{isCovered}

@@ -1,4 +1,4 @@
--- "Open".
+-- Open.
 use Prim.Native.Nat.{ℕ}
 use mathlib.Core.Bool.{Bool, false, not}
 use mathlib.Core.List.{List, [], _∷_}
@@ -8,7 +8,7 @@ use Rattle.board.specs.declared.Board.{Board}
 use Rattle.board.specs.declared.Outcome.{Outcome}
 use Rattle.board.specs.Board.{sidesTaken, opened, leaves}
 
--- "1 if a side is 0 or above 1,024, or a binned board has an odd side"
+-- 1: a side of 0, a side above 1,024, or an odd side of a binned board
 abbrev pub openChecks : ℕ → ℕ → Bool → List Answer
 openChecks width height binned = when (not (sidesTaken width height binned)) 1 ∷ []
 

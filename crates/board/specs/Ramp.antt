@@ -1,4 +1,4 @@
--- The operations on a ramp: Start, Feed, Read out, Drop. "A ramp runs from Start until Read out or Drop succeeds."
+-- The operations on a ramp. A taken Start begins it, a taken Read out or Drop ends it.
 use Prim.Native.Nat.{ℕ, _+_}
 use mathlib.Core.Bool.{Bool, not}
 use mathlib.Core.List.{List, [], _∷_, _++_}
@@ -17,7 +17,7 @@ use Rattle.board.specs.declared.Board.{Board}
 use Rattle.board.specs.declared.Outcome.{Outcome}
 use Rattle.board.specs.Board.{area, wanted, unsound, begun, extended, ended, leaves}
 
--- ---- Start: "9 if a ramp is running"
+-- ---- Start. 9: a ramp is running
 
 abbrev pub startChecks : Board → List Answer
 startChecks b = unsound b ∷ when (b .running) 9 ∷ []
@@ -25,15 +25,15 @@ startChecks b = unsound b ∷ when (b .running) 9 ∷ []
 unfoldable pub startOf : Board → Outcome
 startOf b = leaves (verdict (startChecks b)) b (begun b)
 
--- ---- what Feed and Read out begin with: "10 if no ramp is running. 11 if the sums aren't M long."
+-- ---- what Feed and Read out begin with. 10: no ramp is running. 11: there isn't one sum for each pixel
 
 abbrev pub rampChecks : Board → ℕ → List Answer
 rampChecks b sumsLength = unsound b ∷ when (not (b .running)) 10 ∷ when (not (eqb sumsLength (area b))) 11 ∷ []
 
 -- ---- Feed
 
--- "12 if there are more readings than the ramp still wants. 13 if a reading is above 16,383 (place: the first one's index in the readings). 14 if an entry written
--- by an earlier Feed of this ramp, for which this one brings a reading, isn't possible for its k (place: the smallest such index in the sums)."
+-- 12: the ramp wants fewer readings than come. 13: a reading is above 16,383; the place is the index of the first in the readings. 14: an entry that this ramp
+-- has written, and that gets a reading now, isn't possible for its k; the place is the smallest such index in the sums
 abbrev pub readingChecks : Board → List ℕ → List ℤ → List Answer
 readingChecks b readings sums =
     when (ltb (wanted b) (b .fed + length readings)) 12
@@ -54,8 +54,8 @@ fedSums b readings sums =
 
 -- ---- Read out
 
--- "15 if readings are still wanted. 16 if the output isn't exactly M words, or M / 4 if binned. 14 if an entry isn't possible for k = N (place: the smallest such
--- index)."
+-- 15: the ramp wants more readings. 16: the output isn't one word for each pixel, or for each square if binned. 14: an entry isn't possible for k = N; the place is
+-- the smallest such index
 abbrev pub outputChecks : Board → List ℤ → ℕ → List Answer
 outputChecks b sums outputLength =
     when (ltb (b .fed) (wanted b)) 15
@@ -69,12 +69,12 @@ readOutChecks b sums output = rampChecks b (length sums) ++ outputChecks b sums 
 unfoldable pub readOutOf : Board → List ℤ → List ℕ → Outcome
 readOutOf b sums output = leaves (verdict (readOutChecks b sums output)) b (ended b)
 
--- the output as Read out leaves it. "The sums are unchanged."
+-- the output as Read out leaves it; the sums are only read
 unfoldable pub readOutWords : Board → List ℤ → List ℕ → List ℕ
 readOutWords b sums output =
     byAnswer (verdict (readOutChecks b sums output)) (frameOf (b .width) (b .binned) (b .«in_force» .truncation) sums) output
 
--- ---- Drop: "10 if no ramp is running. Sums and waiting settings are untouched."
+-- ---- Drop. 10: no ramp is running. It is handed no sums, and the waiting settings stay
 
 abbrev pub dropChecks : Board → List Answer
 dropChecks b = unsound b ∷ when (not (b .running)) 10 ∷ []

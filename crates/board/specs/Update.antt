@@ -1,4 +1,4 @@
--- "Update, at any time."
+-- Update, also while a ramp runs.
 use Prim.Native.Nat.{ℕ}
 use mathlib.Core.List.{List, _∷_}
 use Rattle.settings.specs.Record.{fieldCount}

@@ -1,4 +1,4 @@
--- "A refusal is a number and a place. Checks run in the order told." An operation's checks are a list of answers, and the first that refuses is its own.
+-- An operation's checks are a list of answers, in the order in which they are made. The first that refuses, with its number and place, is the operation's answer.
 use Prim.Native.Nat.{ℕ}
 use mathlib.Core.Bool.{Bool, cond}
 use mathlib.Core.List.{List, [], _∷_}
@@ -8,7 +8,7 @@ use Rattle.checks.specs.declared.Found.the-variants.{At, Nothing}
 use Rattle.checks.specs.declared.Answer.{Answer}
 use Rattle.checks.specs.declared.Answer.the-variants.{Taken, Refused}
 
--- "The place is 0, save for 13 and 14."
+-- a refusal at place 0, as every one is but 13 and 14
 abbrev pub refusal : ℕ → Refusal
 refusal n = record { number = n; place = 0 }
 

@@ -6,7 +6,7 @@ use lib.Dec.{ltb}
 use lib.IntN.{ℤ, pos, negsuc}
 use lib.Signed.{leZ}
 
--- "the mark 1,073,741,824 + n", of sample n from 1
+-- the mark of sample n, n from 1
 abbrev pub mark : ℕ → ℤ
 mark n = pos (1073741824 + n)
 

@@ -6,7 +6,7 @@ use lib.IntN.{ℤ, pos, _+ℤ_, _-ℤ_}
 use lib.Signed.{leZ}
 use Rattle.entries.specs.Mark.{mark}
 
--- "A reading is 0 to 16,383."
+-- the largest reading
 abbrev pub maxReading : ℕ
 maxReading = 16383
 
@@ -17,7 +17,7 @@ readingInRange x = leb x maxReading
 abbrev pub maxProduct : ℕ
 maxProduct = 15 * maxReading
 
--- "from 128 − 245,745 × k to 128 + 245,745 × k, or is a mark with n from 1 to k"
+-- at most 245,745 × k from 128, or the mark of one of the samples 1 to k
 unfoldable pub possible : ℕ → ℤ → Bool
 possible k e =
     leZ (pos 128 -ℤ pos (k * maxProduct)) e && leZ e (pos 128 +ℤ pos (k * maxProduct))

@@ -1,6 +1,6 @@
 -- Lists: one made by a rule, a test of each element, a total.
 use Prim.Native.Nat.{ℕ, zero, suc}
-use mathlib.Core.Bool.{Bool, true, _&&_}
+use mathlib.Core.Bool.{Bool, true, false, _&&_, _||_}
 use mathlib.Core.List.{List, [], _∷_, _++_}
 use lib.IntN.{ℤ, pos, _+ℤ_}
 
@@ -13,6 +13,11 @@ each f (suc n) = each f n ++ (f n ∷ [])
 unfoldable pub every : {A : Type 0} → (A → Bool) → List A → Bool
 every test [] = true
 every test (x ∷ xs) = test x && every test xs
+
+-- whether the test holds of some element
+unfoldable pub anyOf : {A : Type 0} → (A → Bool) → List A → Bool
+anyOf test [] = false
+anyOf test (x ∷ xs) = test x || anyOf test xs
 
 -- the total of a list
 unfoldable pub total : List ℤ → ℤ

@@ -10,12 +10,12 @@ use Rattle.settings.specs.Settings.{weightAt}
 use Rattle.entries.specs.Mark.{mark}
 use Rattle.ramp.specs.Step.{overIt}
 
--- "the readings, counted from 0, hold pixel p (from 0) at sample n as number (n − 1) × M + p"
+-- the reading of pixel p at sample n is number (n − 1) × m + p, pixels and numbers counted from 0
 abbrev pub readingOf : ℕ → List ℕ → ℕ → ℕ → ℕ
 readingOf m readings p zero = 0
 readingOf m readings p (suc i) = getD readings (i * m + p) 0
 
--- "128 plus the total of weight n × its reading n for n from 1 to" k
+-- the exact sum of k samples: 128, and weight × reading of each
 abbrev pub exactSum : Settings → ℕ → (ℕ → ℕ) → ℤ
 exactSum s k reading = pos 128 +ℤ sumTo k (λ n. weightAt s n *ℤ pos (reading n))
 

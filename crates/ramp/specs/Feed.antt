@@ -11,7 +11,7 @@ use Rattle.settings.specs.declared.Settings.{Settings}
 use Rattle.settings.specs.Settings.{inRange}
 use Rattle.entries.specs.Possible.{readingInRange, possible}
 
--- "Readings come row by row, the whole array once per sample": number f (from 0) of a ramp on m pixels is of pixel f mod m, at sample f div m + 1
+-- the array comes whole, row by row, for each sample: reading number f (from 0) of a ramp on m pixels is that of pixel f mod m at sample f div m + 1
 unfoldable pub feedOne : {E : Type 0} → E → (ℕ → E → ℕ → E) → ℕ → ℕ → ℕ → List E → List E
 feedOne none step m f x sums = set sums (f % m) (step (suc (f / m)) (getD sums (f % m) none) x)
 

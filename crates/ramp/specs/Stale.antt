@@ -1,4 +1,4 @@
--- Check 14 of Feed: "an entry written by an earlier Feed of this ramp, for which this one brings a reading, isn't possible for its k".
+-- Check 14 of Feed: of the entries that the ramp has written and that get a reading now, those that aren't possible for their k.
 use Prim.Native.Nat.{ℕ, _+_, _*_}
 use mathlib.Core.Bool.{Bool, not, _&&_}
 use mathlib.Core.List.{List}

@@ -1,4 +1,4 @@
--- "Covered".
+-- The covered question.
 use Prim.Native.Nat.{ℕ, zero, suc, _+_, _*_, _^_}
 use mathlib.Core.Bool.{Bool}
 use lib.Dec.{ltb}
@@ -11,7 +11,7 @@ abbrev pub positivePart : ℤ → ℕ
 positivePart (pos w) = w
 positivePart (negsuc w) = 0
 
--- "the total of the positive weights among the first n"
+-- the positive weights of the first n samples, added up
 unfoldable pub positives : Settings → ℕ → ℕ
 positives s zero = 0
 positives s (suc n) = positives s n + positivePart (weightAt s (suc n))
@@ -24,6 +24,6 @@ reach s = 128 + positives s (s .samples) * s .threshold
 abbrev pub ceiling : ℕ → ℕ
 ceiling r = 32752 * 2 ^ r
 
--- "covered if 128 + P × T < 32,752 × 2^r"
+-- *covered*: 128 + P × T lies below 32,752 × 2^r
 unfoldable pub isCovered : Settings → Bool
 isCovered s = ltb (reach s) (ceiling (s .truncation))

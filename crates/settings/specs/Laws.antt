@@ -51,13 +51,13 @@ pub record SettingsLaws : Type 0 where
       ≡ cond (stands (mapOf bytes) bit) (meantBy (fieldOf bit) (numberOf bytes bit)) (valueIn (fieldOf bit) s)
   -- a refused one changes nothing
   pub refused-changes-nothing : (s : Settings) (bytes : List ℕ) (r : Refusal) → updateOf s bytes .answer ≡ Refused r → updateOf s bytes .settings ≡ s
-  -- "The record 00 00 is accepted and changes nothing."
+  -- the record 00 00 is taken and changes nothing
   pub empty-map : (s : Settings) → updateOf s (0 ∷ 0 ∷ []) ≡ taken s
-  -- "The hexadecimal record 00 06 1F 33 03 sets threshold 13,087 and r = 3."
+  -- the record 00 06 1F 33 03 (hexadecimal): threshold 13,087 and r = 3
   pub known-record : (s : Settings) → updateOf s (0x00 ∷ 0x06 ∷ 0x1F ∷ 0x33 ∷ 0x03 ∷ []) ≡ taken (withBoth 13087 3 s)
-  -- "Byte 20 is −4, 31 is −15, and 16 (minus zero) is 0."
+  -- weight bytes 20, 31 and 16 are −4, −15 and 0
   pub known-weights : (weightOf 20 ≡ negℤ (pos 4)) × (weightOf 31 ≡ negℤ (pos 15)) × (weightOf 16 ≡ pos 0)
-  -- "Defaults with T = 13,087: covered. T = 13,088: uncovered."
+  -- the defaults with threshold 13,087 are covered, with 13,088 not
   pub known-covered : (isCovered (withBoth 13087 2 defaults) ≡ true) × (isCovered (withBoth 13088 2 defaults) ≡ false)
   -- all settings in range come of one record of bytes on any others
   pub reachable : (s t : Settings) → inRange s ≡ true → length (t .weights) ≡ 9

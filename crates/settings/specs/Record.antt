@@ -1,4 +1,4 @@
--- "Update record. Two bytes of map, low byte first, then only the fields whose bit stands, in bit order."
+-- The update record: a map of two bytes, low byte first, and then the fields whose bits stand in it, from the lowest bit up.
 use Prim.Native.Nat.{ℕ, zero, suc, _+_, _*_, _/_, _%_, _^_}
 use mathlib.Core.Bool.{Bool, cond}
 use mathlib.Core.List.{List}
@@ -23,7 +23,7 @@ mapOf bytes = pairAt bytes 0
 abbrev pub fieldCount : ℕ
 fieldCount = 12
 
--- "Bits 0 to 8: weights 1 to 9. Bit 9: threshold. Bit 10: r. Bit 11: N." (`Weight i` is weight i + 1.)
+-- bits 0 to 8 are for weights 1 to 9 (`Weight i` is weight i + 1), bit 9 for the threshold, 10 for r and 11 for N
 unfoldable pub fieldOf : ℕ → Field
 fieldOf bit = cond (ltb bit 9) (Weight bit) (cond (eqb bit 9) Threshold (cond (eqb bit 10) Truncation Samples))
 
@@ -50,6 +50,6 @@ numberAt Samples bytes at = getD bytes at 0
 abbrev pub numberOf : List ℕ → ℕ → ℕ
 numberOf bytes bit = numberAt (fieldOf bit) bytes (placeOf (mapOf bytes) bit)
 
--- "A weight byte has its sign in bit 4 and its magnitude in bits 0 to 3"
+-- a weight byte: the sign is bit 4, the magnitude bits 0 to 3
 unfoldable pub weightOf : ℕ → ℤ
 weightOf b = cond (stands b 4) (negℤ (pos (b % 16))) (pos (b % 16))

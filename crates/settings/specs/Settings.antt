@@ -1,4 +1,4 @@
--- "The board and its settings": the defaults, the ranges, and the weight of a sample.
+-- The settings: the defaults, the ranges, and the weight of a sample.
 use Prim.Native.Nat.{ℕ, zero, suc}
 use mathlib.Core.Bool.{Bool, _&&_}
 use mathlib.Core.List.{List, [], _∷_}
@@ -9,7 +9,7 @@ use lib.Signed.{leZ}
 use Rattle.laws.specs.Lists.{every}
 use Rattle.settings.specs.declared.Settings.{Settings}
 
--- "weights −4, −3, −2, −1, 0, 1, 2, 3, 4; r = 2; N = 9; threshold 16,383"
+-- the settings at opening: weights −4 to 4, threshold 16,383, r = 2, N = 9
 abbrev pub defaults : Settings
 defaults = record {
   weights = negℤ (pos 4) ∷ negℤ (pos 3) ∷ negℤ (pos 2) ∷ negℤ (pos 1) ∷ pos 0 ∷ pos 1 ∷ pos 2 ∷ pos 3 ∷ pos 4 ∷ [];
@@ -32,11 +32,11 @@ thresholdInRange t = leb t maxThreshold
 abbrev pub truncationInRange : ℕ → Bool
 truncationInRange r = leb 1 r && leb r 3
 
--- "N is 1 to 9"
+-- N is 1 to 9
 abbrev pub samplesInRange : ℕ → Bool
 samplesInRange n = leb 1 n && leb n 9
 
--- "nine weights held together in order"
+-- there are nine weights
 abbrev pub weightsInRange : List ℤ → Bool
 weightsInRange ws = eqb (length ws) 9 && every weightInRange ws
 

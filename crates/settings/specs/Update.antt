@@ -1,4 +1,4 @@
--- "Update": its checks, the settings that would result, and its outcome.
+-- Update: its checks, the settings that would result, and its outcome.
 use Prim.Native.Nat.{ℕ, zero, suc, _^_}
 use mathlib.Core.Bool.{Bool, cond, not}
 use mathlib.Core.List.{List, _∷_}
@@ -15,7 +15,7 @@ use Rattle.settings.specs.declared.Updated.{Updated}
 use Rattle.settings.specs.Settings.{thresholdInRange, truncationInRange, samplesInRange}
 use Rattle.settings.specs.Record.{stands, mapOf, fieldCount, fieldOf, placeOf, numberOf, weightOf}
 
--- "5 weight byte above 31, 6 threshold above 16,383, 7 r not 1 to 3, 8 N not 1 to 9"
+-- 5: a weight byte above 31. 6: a threshold above 16,383. 7: an r outside 1 to 3. 8: an N outside 1 to 9
 abbrev pub checkOf : Field → ℕ → Answer
 checkOf (Weight i) v = when (ltb 31 v) 5
 checkOf Threshold v = when (not (thresholdInRange v)) 6
@@ -26,8 +26,8 @@ checkOf Samples v = when (not (samplesInRange v)) 8
 abbrev pub fieldCheck : List ℕ → ℕ → Answer
 fieldCheck bytes bit = cond (stands (mapOf bytes) bit) (checkOf (fieldOf bit) (numberOf bytes bit)) Taken
 
--- "2 if the record is under two bytes. 3 if a map bit from 12 to 15 stands. 4 if the length isn't exactly what the map calls for.
--- Then the fields in bit order, the first bad one." (A bit from 12 on stands where the map is 2^12 or more.)
+-- 2: under two bytes. 3: one of the map bits 12 to 15 stands, so that the map is 2^12 or more. 4: not the length that the map calls for. Then the checks of the
+-- fields, from the lowest bit up
 abbrev pub updateChecks : List ℕ → List Answer
 updateChecks bytes =
     when (ltb (length bytes) 2) 2
@@ -51,7 +51,7 @@ unfoldable pub resulting : List ℕ → ℕ → Settings → Settings
 resulting bytes zero s = s
 resulting bytes (suc bit) s = withBit bytes bit (resulting bytes bit s)
 
--- "An update is taken whole or not taken."
+-- taken whole, or not at all
 unfoldable pub updateOf : Settings → List ℕ → Updated
 updateOf s bytes =
     let answer = verdict (updateChecks bytes) in

@@ -13,7 +13,7 @@ use Rattle.words.specs.Word.{wordOf, readable}
 abbrev pub pixelAt : ℕ → ℕ → ℕ → ℕ
 pixelAt width row column = row * width + column
 
--- "a square is rows 2j and 2j + 1 with columns 2i and 2i + 1"
+-- the square of rows 2j and 2j + 1 and columns 2i and 2i + 1
 abbrev pub squareAt : ℕ → ℕ → ℕ → List ℕ
 squareAt width j i =
     pixelAt width (2 * j) (2 * i)
@@ -22,12 +22,12 @@ squareAt width j i =
     ∷ pixelAt width (2 * j + 1) (2 * i + 1)
     ∷ []
 
--- the pixels of word k: itself, or its square; squares, width / 2 to a row, "go row by row"
+-- the pixels of word k: itself, or its square; squares go row by row, width / 2 to a row
 unfoldable pub pixelsOf : ℕ → Bool → ℕ → List ℕ
 pixelsOf width false k = k ∷ []
 pixelsOf width true k = squareAt width (k / (width / 2)) (k % (width / 2))
 
--- "M words, or M / 4 if binned"
+-- how many words a frame of m pixels has: m, or m / 4 if binned
 abbrev pub wordCount : Bool → ℕ → ℕ
 wordCount false m = m
 wordCount true m = m / 4

@@ -1,4 +1,4 @@
--- "Reading a word".
+-- Reading a word.
 use Prim.Native.Nat.{ℕ, _+_, _-_, _*_, _^_}
 use mathlib.Core.Bool.{cond, not, _&&_}
 use lib.Dec.{leb, ltb, eqb}
@@ -13,8 +13,8 @@ use Rattle.words.specs.declared.WordRead.the-variants.{Ordinary, Saturat
 abbrev pub limit : ℕ → Float
 limit n = ofInt binary64 (pos n)
 
--- below 32,752 "from w × 2^r up to but not including (w + 1) × 2^r"; "32,753 to 32,761 mean saturated at sample 1 to 9. 32,767 means negative. All others
--- mean unassigned."
+-- below 32,752 ordinary: a sum of w × 2^r or more, and below (w + 1) × 2^r; 32,753 to 32,761 saturated at sample 1 to 9; 32,767 negative; any other is
+-- unassigned
 unfoldable pub meaning : ℕ → ℕ → WordRead
 meaning r w =
     cond (ltb w 32752) (Ordinary (limit (w * 2 ^ r)) (limit ((w + 1) * 2 ^ r)))
@@ -22,6 +22,6 @@ meaning r w =
     (cond (eqb w 32767) Negative
     Unassigned))
 
--- "7 if r isn't 1 to 3"
+-- 7: an r outside 1 to 3
 unfoldable pub readWord : ℕ → ℕ → WordRead
 readWord r w = cond (not (truncationInRange r)) (Refused (refusal 7)) (meaning r w)

@@ -1,4 +1,4 @@
--- "The words": from the entries of a word's pixels, one or a square's four, to the word.
+-- From the entries of a word's pixels, one or a square's four, to the word.
 use Prim.Native.Nat.{ℕ, _+_, _*_, _/_, _%_, _^_, min}
 use mathlib.Core.Bool.{Bool, cond, _&&_, _||_}
 use mathlib.Core.List.{List, [], _∷_}
@@ -24,7 +24,7 @@ smallestMark (e ∷ es) = smaller (sampleOf e) (smallestMark es)
 unfoldable pub isNegative : List ℤ → Bool
 isNegative sums = ltZ (total sums) (pos 0)
 
--- a sum that isn't negative, "divided by d, rounded down, then the remainder by 32,768"
+-- a sum S that isn't negative is divided by d, rounded down, and cut to 15 bits
 abbrev pub cutBy : ℕ → ℤ → ℕ
 cutBy d S = natAbs S / d % 32768
 
