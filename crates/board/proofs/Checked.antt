@@ -2,11 +2,13 @@
 --     ramp-taken         what Feed and Read out begin with
 --     feed-taken, feedable        Feed
 --     read-out-taken, readable-frame     Read out
+-- and back: feed-passes, read-out-passes. And of a sound board: covered-is.
 use Prim.Native.Nat.{ℕ, _+_, _*_, _≤_}
-use mathlib.Core.Bool.{Bool, true, false, not}
+use mathlib.Core.Bool.{Bool, true, false, not, cond}
 use mathlib.Core.List.{List, [], _∷_}
+use mathlib.Core.Logic.{_↔_}
 use mathlib.Core.Path.{_≡_, refl, sym, _∙_}
-use borrow.Author.Tests.{ltb-false, le-leb, eqb-true, not-false}
+use borrow.Author.Tests.{ltb-false, le-ltb, le-leb, eqb-true, eq-eqb, not-false}
 use native.Mathlib.Omega.{arith}
 use lib.Dec.{ltb, eqb}
 use lib.IntN.{ℤ, pos}
@@ -14,13 +16,14 @@ use lib.ListN.{length, getD}
 use Rattle.laws.specs.Lists.{every}
 use Rattle.laws.proofs.Every.{every-at, every-all, every-each}
 use Rattle.laws.proofs.Tests.{true-and}
+use Rattle.settings.specs.Covered.{isCovered}
 use Rattle.settings.proofs.Parts.{in-range-whole}
 use Rattle.checks.specs.declared.Answer.the-variants.{Taken}
 use Rattle.checks.specs.declared.Found.the-variants.{Nothing}
 use Rattle.checks.specs.Search.{firstPlace}
 use Rattle.checks.specs.Checks.{found, verdict}
 use Rattle.checks.proofs.Laws.{verdict-append, both-taken, when-taken, found-taken}
-use Rattle.checks.proofs.Search.{found-none}
+use Rattle.checks.proofs.Search.{found-none, found-every}
 use Rattle.entries.specs.Possible.{readingInRange, possible}
 use Rattle.ramp.specs.Feed.{Feedable}
 use Rattle.ramp.specs.Stale.{staleAt}
@@ -29,8 +32,10 @@ use Rattle.words.specs.Word.{readable}
 use Rattle.words.specs.Frame.{wordCount, Readable}
 use Rattle.words.proofs.Entries.{possible-readable}
 use Rattle.board.specs.declared.Board.{Board}
+use Rattle.board.specs.declared.Coverage.the-variants.{Covered, Uncovered}
 use Rattle.board.specs.Board.{area, wanted, sound}
 use Rattle.board.specs.Ramp.{rampChecks, readingChecks, feedChecks, outputChecks, readOutChecks}
+use Rattle.board.specs.Covered.{coverageOf}
 use Rattle.board.proofs.Soundness.{Sound, Sides, sound-parts, sides-of, wanted-nine}
 
 pub record RampTaken (b : Board) (sumsLength : ℕ) : Type 0 where
@@ -76,6 +81,11 @@ feed-taken b xs sums e =
       stale = found-taken _ 14 (r .0);
     }
 
+pub feed-passes : (b : Board) (xs : List ℕ) (sums : List ℤ) → FeedTaken b xs sums → verdict (feedChecks b xs sums) ≡ Taken
+unfolding verdict
+feed-passes b xs sums t =
+    rw (t .ramp .whole, t .ramp .running, eq-eqb _ _ (t .ramp .length-is), le-ltb _ _ (t .room), found-every readingInRange xs 0 (t .readings), t .stale)
+
 pub feedable : (b : Board) (xs : List ℕ) (sums : List ℤ) → FeedTaken b xs sums → Feedable (b .«in_force») (b .fed) xs sums
 feedable b xs sums t =
     let s = sound-parts b (t .ramp .whole) in
@@ -111,6 +121,11 @@ read-out-taken b sums output e =
       entries = none-fails (possible (b .«in_force» .samples)) sums (pos 0) 14 (r .0);
     }
 
+pub read-out-passes : (b : Board) (sums : List ℤ) (output : List ℕ) → ReadOutTaken b sums (length output) → verdict (readOutChecks b sums output) ≡ Taken
+unfolding verdict
+read-out-passes b sums output t =
+    rw (t .ramp .whole, t .ramp .running, eq-eqb _ _ (t .ramp .length-is), le-ltb _ _ (t .full), eq-eqb _ _ (t .room), found-every (possible (b .«in_force» .samples)) sums (pos 0) (t .entries))
+
 pub readable-frame : (b : Board) (sums : List ℤ) (output : List ℕ) → ReadOutTaken b sums (length output)
     → Readable (b .width) (b .height) (b .binned) (b .«in_force» .truncation) sums output
 unfolding readable
@@ -124,3 +139,11 @@ readable-frame b sums output t =
       truncation = true-and (le-leb _ _ (s .in-force .truncation-low)) (le-leb _ _ (s .in-force .truncation-high));
       entries = every-each readable sums (every-all readable sums (pos 0) (λ i h. possible-readable _ _ (s .in-force .samples-high) (every-at (possible (b .«in_force» .samples)) sums (t .entries) (pos 0) i h))) (pos 0) refl;
     }
+
+says-covered : (t : Bool) → (cond t Covered Uncovered ≡ Covered) ↔ (t ≡ true)
+says-covered true = ((λ e. refl), λ e. refl)
+says-covered false = ((λ e. cc), λ e. cc)
+
+pub covered-is : (b : Board) → sound b ≡ true → (coverageOf b ≡ Covered) ↔ (isCovered (b .«in_force») ≡ true)
+unfolding coverageOf verdict
+covered-is b s = rw s (says-covered (isCovered (b .«in_force»)))

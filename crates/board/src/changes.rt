@@ -9,7 +9,7 @@ use settings::Settings;
 
 impl Board {
     // A board that was just opened.
-    pub fn opened(width: usize, height: usize, binned: bool) -> Board
+    pub(crate) fn opened(width: usize, height: usize, binned: bool) -> Board
         ensures { λ r. ⌜ r ≡ Def.opened width height binned ⌝ }
     {
         let defaults = Settings::defaults();
@@ -25,7 +25,7 @@ impl Board {
     }
 
     // Other settings wait.
-    pub fn with_waiting(self, settings: Settings) -> Board
+    pub(crate) fn with_waiting(self, settings: Settings) -> Board
         ensures { λ r. ⌜ r ≡ Def.withWaiting settings self ⌝ }
     {
         let mut b = self;
@@ -34,7 +34,7 @@ impl Board {
     }
 
     // A ramp begins: the waiting settings are in force.
-    pub fn begun(self) -> Board
+    pub(crate) fn begun(self) -> Board
         ensures { λ r. ⌜ r ≡ Def.begun self ⌝ }
     {
         let waiting = self.waiting;
@@ -46,7 +46,7 @@ impl Board {
     }
 
     // More readings are fed.
-    pub fn extended(self, count: usize) -> Board
+    pub(crate) fn extended(self, count: usize) -> Board
         requires { ⌜ self .fed + count < 2 ^ 64 ⌝ }
         ensures { λ r. ⌜ r ≡ Def.extended count self ⌝ }
     {
@@ -56,7 +56,7 @@ impl Board {
     }
 
     // The ramp ends.
-    pub fn ended(self) -> Board
+    pub(crate) fn ended(self) -> Board
         ensures { λ r. ⌜ r ≡ Def.ended self ⌝ }
     {
         let mut b = self;

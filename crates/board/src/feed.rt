@@ -14,7 +14,7 @@ use ramp::stale::first_stale;
 
 impl Board {
     // What Feed and Read out begin with: 99, 10 and 11.
-    pub fn check_ramp(self, sums: usize) -> Answer
+    pub(crate) fn check_ramp(self, sums: usize) -> Answer
         ensures { λ r. ⌜ r ≡ verdict (rampChecks self sums) ⌝ }
     {
         if self.sound() {
@@ -40,7 +40,7 @@ impl Board {
         above.then(stale)
     }
 
-    fn check_feed(self, readings: &[u16], sums: &[i32]) -> Answer
+    pub fn check_feed(self, readings: &[u16], sums: &[i32]) -> Answer
         ensures { λ r. ⌜ r ≡ verdict (feedChecks self (now (readings .entry)) (now (sums .entry))) ⌝ }
     {
         let begin = self.check_ramp(sums.len());

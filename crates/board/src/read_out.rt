@@ -15,7 +15,7 @@ use words::frame::write_frame;
 
 impl Board {
     // How many words a frame has: one for each pixel, or each square.
-    fn word_count(self) -> usize
+    pub fn word_count(self) -> usize
         requires { ⌜ Def.sound self ≡ true ⌝ }
         ensures { λ r. ⌜ r ≡ wordCount (self .binned) (area self) ⌝ }
     {

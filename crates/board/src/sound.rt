@@ -21,7 +21,7 @@ pub fn sides_taken(width: usize, height: usize, binned: bool) -> bool
 
 impl Board {
     // How many pixels the board has.
-    pub fn area(self) -> usize
+    pub(crate) fn area(self) -> usize
         requires { ⌜ sidesTaken (self .width) (self .height) (self .binned) ≡ true ⌝ }
         ensures { λ r. ⌜ r ≡ Def.area self ⌝ }
     {
@@ -52,7 +52,7 @@ impl Board {
     }
 
     // The check that every operation begins with.
-    pub fn check_sound(self) -> Answer
+    pub(crate) fn check_sound(self) -> Answer
         ensures { λ r. ⌜ r ≡ unsound self ⌝ }
     {
         Answer::when(!self.sound(), checks::UNSOUND_BOARD)

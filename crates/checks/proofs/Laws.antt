@@ -5,17 +5,22 @@
 --     both-taken         neither of two refuses
 --     verdict-rest       the checks after the first
 --     when-taken, found-taken     a test that does not hold, and a search that finds nothing
+--     Spares                      an answer that is no refusal with a number n
+--     when-spares, found-spares, none-spares     checks with other numbers give none, and a search that finds nothing
 use Prim.Native.Nat.{ℕ, zero, suc, _<_}
 use mathlib.Core.Bool.{Bool, true, false}
 use mathlib.Core.List.{List, [], _∷_, _++_}
-use mathlib.Core.Path.{_≡_, refl}
+use mathlib.Core.Path.{_≡_, refl, ap}
+use borrow.Author.Tests.{eqb-false}
 use native.Mathlib.Omega.{arith}
+use lib.Dec.{eqb}
 use Rattle.laws.specs.Lists.{each}
+use Rattle.checks.specs.declared.Refusal.{Refusal}
 use Rattle.checks.specs.declared.Found.{Found}
 use Rattle.checks.specs.declared.Found.the-variants.{At, Nothing}
 use Rattle.checks.specs.declared.Answer.{Answer}
 use Rattle.checks.specs.declared.Answer.the-variants.{Taken, Refused}
-use Rattle.checks.specs.Checks.{when, found, first, verdict}
+use Rattle.checks.specs.Checks.{refusal, when, found, first, verdict}
 
 pub first-taken : (a : Answer) → first a Taken ≡ a
 first-taken Taken = refl
@@ -51,3 +56,31 @@ found-taken Nothing n e = refl
 pub when-taken : (t : Bool) (n : ℕ) → when t n ≡ Taken → t ≡ false
 when-taken true n e = cc
 when-taken false n e = refl
+
+abbrev pub Spares : ℕ → Answer → Type 0
+Spares n a = (place : ℕ) → a ≡ Refused (record { number = n; place = place }) → ⊥
+
+taken-spares : (n : ℕ) → Spares n Taken
+taken-spares n p e = let z : _≡_ {A = ℕ} 0 1 = cc in omega arith
+
+-- a refusal with another number
+other-spares : (n : ℕ) (r : Refusal) → eqb (r .number) n ≡ false → Spares n (Refused r)
+other-spares n r ne p e = eqb-false (r .number) n ne (ap (λ (t : Refusal). t .number) (same e))
+  where
+    same : {a b : Refusal} → Refused a ≡ Refused b → a ≡ b
+    same q = cc
+
+module _ (n k : ℕ) (l : List Answer) (ne : eqb k n ≡ false) where
+  pub when-spares : (t : Bool) → (t ≡ false → Spares n (verdict l)) → Spares n (verdict (when t k ∷ l))
+  unfolding verdict
+  when-spares true h = other-spares n (refusal k) ne
+  when-spares false h = h refl
+
+  pub found-spares : (x : Found) → Spares n (verdict l) → Spares n (verdict (found x k ∷ l))
+  unfolding verdict
+  found-spares (At p) h = other-spares n (record { number = k; place = p }) ne
+  found-spares Nothing h = h
+
+pub none-spares : (n k : ℕ) (x : Found) → x ≡ Nothing → Spares n (verdict (found x k ∷ []))
+unfolding verdict
+none-spares n k x e = rw e (taken-spares n)

@@ -3,15 +3,19 @@
 --     first-some, first-none    the same, from its value
 --     first-found, first-not    and back
 --     first-same, sum-same      they turn only on the values from 1 to k
+--     nowhere-any               where none of several tests holds, each holds nowhere
 use Prim.Native.Nat.{ℕ, zero, suc, _≤_, _<_}
 use mathlib.Core.Bool.{Bool, true, false, cond}
+use mathlib.Core.List.{List, [], _∷_}
 use mathlib.Core.Option.{Option, none, some}
 use mathlib.Core.Path.{_≡_, refl, sym, ap, _∙_}
 use native.Mathlib.Decide.{ℕ-discrete}
 use native.Mathlib.Omega.{arith}
 use lib.IntN.{ℤ}
+use Rattle.laws.specs.Lists.{anyOf}
 use Rattle.laws.specs.Numbers.{First, firstOf, orElse, sumTo}
-use Rattle.laws.proofs.Tests.{clash}
+use Rattle.laws.proofs.Parts.{All}
+use Rattle.laws.proofs.Tests.{clash, neither}
 
 abbrev pub Nowhere : (ℕ → Bool) → ℕ → Type 0
 Nowhere t k = (n : ℕ) → 1 ≤ n → n ≤ k → t n ≡ false
@@ -67,3 +71,10 @@ pub sum-same : (f g : ℕ → ℤ) (k : ℕ) → ((n : ℕ) → 1 ≤ n → n �
 unfolding sumTo
 sum-same f g zero h = refl
 sum-same f g (suc k) h = rw (sum-same f g k (λ n a l. h n a (omega arith)), h (suc k) (omega arith) (omega arith))
+
+pub nowhere-any : {A : Type 0} (t : A → ℕ → Bool) (k : ℕ) (xs : List A) → Nowhere (λ n. anyOf (λ x. t x n) xs) k → All (λ x. Nowhere (t x) k) xs
+unfolding anyOf
+nowhere-any t k [] h = tt
+nowhere-any t k (x ∷ xs) h =
+    let both : (n : ℕ) → 1 ≤ n → n ≤ k → (t x n ≡ false) × (anyOf (λ x. t x n) xs ≡ false) = λ n a l. neither (t x n) (anyOf (λ x. t x n) xs) (h n a l) in
+    ((λ n a l. both n a l .0), nowhere-any t k xs (λ n a l. both n a l .1))

@@ -2,7 +2,7 @@
 -- are then linear facts about `up` and `dn`, which `omega` reads as unknowns.
 --     sum, neg-up, neg-dn, times-up, times-dn     the two parts of a sum, a negation and a product with a natural
 --     scaled                                      the bound of a product
---     le-true .. lt-false                         what a test of order says; is-le .. not-lt the test's value from the fact
+--     le-true .. lt-false                         what a test of order says; is-le, not-le the test's value from the fact
 --     signed                                      `omega`'s list with the tests of order: `omega signed`, `omega (signed, sum a b)`
 --     fits, fitted                                from a range to `SFits`, and back
 --     back, toZ-nat                               a number as the machine holds it

@@ -2,8 +2,9 @@
 --     part-length     how many
 --     part-at         an element
 --     part-keeps      what holds of what `getD` finds in a list holds in its part
-use mathlib.Core.Path.{_≡_, _∙_}
-use mathlib.Core.List.{List, [], _∷_}
+--     map-same        two functions that agree on each element
+use mathlib.Core.Path.{_≡_, refl, _∙_}
+use mathlib.Core.List.{List, [], _∷_, map}
 use Prim.Native.Nat.{ℕ, zero, suc, _+_, _≤_, _<_}
 use native.Mathlib.Omega.{arith}
 use lib.ListN.{length, getD, take, drop, length-drop}
@@ -30,3 +31,7 @@ module _ {A : Type 0} where
 
     pub part-keeps : (l : List A) (i k : ℕ) → ((j : ℕ) → P (getD l j d)) → (j : ℕ) → P (getD (take k (drop i l)) j d)
     part-keeps l i k h j = take-keeps k (drop i l) (λ n. rw getD-drop (h (i + n))) j
+
+pub map-same : {A B : Type 0} {P : A → Type 0} (f g : A → B) → ((x : A) → P x → f x ≡ g x) → (l : List A) → All P l → map f l ≡ map g l
+map-same f g h [] a = refl
+map-same f g h (x ∷ l) a = rw (h x (a .0), map-same f g h l (a .1))

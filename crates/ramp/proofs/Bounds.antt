@@ -1,5 +1,6 @@
 -- The bound of a pixel's exact sum.
 --     total-le, total-at             readings at or below the threshold come to at most P × T; and some to just that
+--     low-of                         where no reading is over the threshold
 --     cover-holds, cover-breaks      covered settings keep every exact sum below the ceiling; others don't
 --     below-marks                    an unmarked sum lies below every mark
 use Prim.Native.Nat.{ℕ, zero, suc, _+_, _*_, _≤_, _<_, min}
@@ -15,10 +16,12 @@ use lib.Signed.{_≤ℤ_}
 use Rattle.laws.specs.Numbers.{sumTo}
 use Rattle.laws.proofs.Tests.{cases}
 use Rattle.laws.proofs.Ints.{up, dn, sum, times-up, signed}
+use Rattle.laws.proofs.Firsts.{Nowhere}
 use Rattle.settings.specs.declared.Settings.{Settings}
 use Rattle.settings.specs.Settings.{weightInRange, weightAt}
 use Rattle.settings.specs.Covered.{positivePart, positives, reach, ceiling, isCovered}
 use Rattle.settings.proofs.Parts.{InRange}
+use Rattle.ramp.specs.Step.{overIt}
 use Rattle.ramp.specs.Exact.{exactSum}
 
 -- weight n × reading n
@@ -28,6 +31,9 @@ part s x n = weightAt s n *ℤ pos (x n)
 -- readings at or below the threshold, from sample 1 to k
 abbrev pub Low : Settings → ℕ → (ℕ → ℕ) → Type 0
 Low s k x = (n : ℕ) → 1 ≤ n → n ≤ k → x n ≤ s .threshold
+
+pub low-of : (s : Settings) (x : ℕ → ℕ) (k : ℕ) → Nowhere (λ n. overIt s n (x n)) k → Low s k x
+low-of s x k h n a l = ltb-false (s .threshold) (x n) (h n a l)
 
 up-is : (z : ℤ) → up z ≡ positivePart z
 up-is (pos n) = refl

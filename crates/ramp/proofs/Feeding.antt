@@ -1,15 +1,16 @@
 -- The laws of `feedAll`, for any kind of entry and any step.
 --     feed-length     it keeps the length
 --     feed-append     some readings, and then some more
+--     feed-past       a pixel that no reading has reached is as it was
 --     feed-part       readings that stay within one sample: `over` at the part of the sums that they reach
 use Prim.Native.Nat.{ℕ, zero, suc, _+_, _*_, _/_, _%_, _≤_, _<_}
 use mathlib.Core.List.{List, [], _∷_, _++_, append-assoc}
 use mathlib.Core.Path.{_≡_, refl, sym, ap, _∙_}
-use native.Mathlib.Nat.{add-zero, add-suc, suc-add}
+use native.Mathlib.Nat.{add-zero, add-suc, suc-add, mod-le}
 use native.Mathlib.Omega.{arith}
 use lib.Arith.{digits-div, digits-mod}
 use lib.ListN.{length, getD, take, drop, set, length-set, take-append-drop}
-use lib.Seq.{take-suc-set, drop-set-lt, drop-cons, append-snoc}
+use lib.Seq.{take-suc-set, drop-set-lt, drop-cons, append-snoc, getD-set-other}
 use Rattle.laws.specs.Lists.{over}
 use Rattle.laws.proofs.Over.{over-part}
 use Rattle.ramp.specs.Feed.{feedOne, feedAll}
@@ -34,6 +35,12 @@ module _ {E : Type 0} (none : E) (step : ℕ → E → ℕ → E) (m : ℕ) wher
   unfolding feedAll
   feed-append [] ys f ss = rw add-zero
   feed-append (x ∷ xs) ys f ss = rw (add-suc, ← suc-add) (feed-append xs ys (suc f) (one f x ss))
+
+  pub feed-past : (xs : List ℕ) (f : ℕ) (ss : List E) (p : ℕ) → f + length xs ≤ p → getD (all f xs ss) p none ≡ getD ss p none
+  unfolding feedAll feedOne
+  feed-past [] f ss p h = refl
+  feed-past (x ∷ xs) f ss p h =
+      feed-past xs (suc f) (one f x ss) p (omega arith) ∙ getD-set-other ss (f % m) p _ none (λ e. omega (arith, mod-le f m))
 
   module _ (n : ℕ) where
     -- what sample n + 1 does to an entry

@@ -7,5 +7,6 @@ pub mod Turn
 pub mod Bounds
 pub mod Pixel
 pub mod Agrees
+pub mod Honest
 pub mod Intervals
 pub mod Laws

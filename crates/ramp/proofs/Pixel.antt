@@ -2,30 +2,40 @@
 --     entry-step          a step takes the entry of k samples to that of k + 1; sample 1 takes any entry
 --     entry-same          the entry of k samples turns on the readings of those alone
 --     entry-possible      it is possible for k
+--     entry-sample        it is marked with the first sample over the threshold, if there is one
 use Prim.Native.Nat.{ℕ, zero, suc, _≤_, _<_}
 use mathlib.Core.Bool.{Bool, true, false, cond}
 use mathlib.Core.Option.{Option, none, some}
 use mathlib.Core.Path.{_≡_, refl}
-use borrow.Author.Tests.{ltb-false}
 use native.Mathlib.Omega.{arith}
 use lib.IntN.{ℤ, pos, _+ℤ_, +ℤ-assoc}
 use Rattle.laws.specs.Numbers.{orElse, firstOf, sumTo}
 use Rattle.laws.proofs.Ints.{not-le}
-use Rattle.laws.proofs.Firsts.{Says, first-says, first-same, sum-same}
+use Rattle.laws.proofs.Firsts.{Nowhere, Says, first-says, first-same, sum-same}
 use Rattle.settings.specs.declared.Settings.{Settings}
 use Rattle.settings.specs.Settings.{weightAt}
 use Rattle.settings.proofs.Parts.{InRange}
-use Rattle.entries.specs.Mark.{mark}
+use Rattle.entries.specs.Mark.{mark, marked, sampleOf}
 use Rattle.entries.specs.Possible.{readingInRange, possible}
-use Rattle.entries.proofs.Marks.{is-marked}
+use Rattle.entries.proofs.Marks.{is-marked, sample-is, sample-none}
 use Rattle.ramp.specs.Step.{overIt, onGround, step}
 use Rattle.ramp.specs.Exact.{exactSum, firstOver, markedBy, entryAfter}
 use Rattle.ramp.proofs.Steps.{possible-step}
-use Rattle.ramp.proofs.Bounds.{part, below-marks}
+use Rattle.ramp.proofs.Bounds.{part, low-of, below-marks}
 
 module _ (s : Settings) (r : InRange s) (x : ℕ → ℕ) where
   abbrev over : ℕ → Bool
   over n = overIt s n (x n)
+
+  unmarked : (k : ℕ) → Nowhere over k → marked (exactSum s k x) ≡ false
+  unmarked k h = not-le (mark 1) (exactSum s k x) (omega (arith, below-marks s r x k (low-of s x k h)))
+
+  pub entry-sample : (k : ℕ) → sampleOf (entryAfter s k x) ≡ firstOver s k x
+  entry-sample k = by (firstOver s k x) (first-says over k)
+    where
+      by : (o : Option ℕ) → Says over k o → sampleOf (markedBy o (exactSum s k x)) ≡ o
+      by (some n) f = sample-is n (f .low)
+      by none f = sample-none (exactSum s k x) (unmarked k f)
 
   ground-step : (k : ℕ) → onGround (weightAt s (suc k)) (over (suc k)) (mark (suc k)) (entryAfter s k x) (x (suc k)) ≡ entryAfter s (suc k) x
   unfolding firstOf sumTo
@@ -42,8 +52,7 @@ module _ (s : Settings) (r : InRange s) (x : ℕ → ℕ) where
           → onGround (weightAt s (suc k)) (over (suc k)) (mark (suc k)) (markedBy o z) (x (suc k))
           ≡ markedBy (orElse o (cond (over (suc k)) (some (suc k)) none)) (pos 128 +ℤ (sumTo k (part s x) +ℤ part s x (suc k)))
       by (some n) f = rw (is-marked n (f .low))
-      by none f =
-          rw (not-le (mark 1) z (omega (arith, below-marks s r x k (λ n a l. ltb-false (s .threshold) (x n) (f n a l))))) (last (over (suc k)))
+      by none f = rw (unmarked k f) (last (over (suc k)))
 
   pub entry-step : (k : ℕ) (e : ℤ) → (1 ≤ k → e ≡ entryAfter s k x) → step s (suc k) e (x (suc k)) ≡ entryAfter s (suc k) x
   unfolding step firstOf sumTo

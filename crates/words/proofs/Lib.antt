@@ -1,4 +1,5 @@
 -- The laws of words.
+pub mod Firsts
 pub mod Entries
 pub mod Words
 pub mod Squares

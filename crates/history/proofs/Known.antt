@@ -1,0 +1,34 @@
+-- The table of known ramps, row by row, by computation.
+use mathlib.Core.Path.{refl}
+use Rattle.laws.specs.Lists.{total}
+use Rattle.laws.specs.Numbers.{sumTo}
+use Rattle.settings.specs.Covered.{positives, isCovered}
+use Rattle.entries.specs.Mark.{sampleOf}
+use Rattle.ramp.specs.Step.{step}
+use Rattle.ramp.specs.Feed.{feedOne, feedAll}
+use Rattle.words.specs.Word.{smallestMark, isNegative}
+use Rattle.words.specs.Reading.{meaning, readWord}
+use Rattle.history.specs.Known.{AllKnown}
+
+infixr 10 _then_
+-- a row and the rows after it
+_then_ : {A B : Type 0} → A → B → A × B
+_then_ a b = (a, b)
+
+pub known : AllKnown
+unfolding sumTo step feedOne feedAll sampleOf smallestMark isNegative total meaning readWord isCovered positives
+known =
+    (refl, refl, refl, refl, refl)
+    then (refl, refl, refl, refl, refl)
+    then (refl, refl, refl, refl, refl)
+    then (refl, refl, refl, refl, refl)
+    then (refl, refl, refl, refl, refl)
+    then (refl, refl, refl, refl, refl)
+    then (refl, refl, refl, refl, refl)
+    then (refl, refl, refl, refl, refl)
+    then (refl, refl, refl, refl, refl)
+    then (refl, refl)
+    then (refl, refl)
+    then (refl, refl)
+    then (refl, refl)
+    then tt

@@ -1,0 +1,1 @@
+// No code: the statements over lists of calls, and their proofs.
