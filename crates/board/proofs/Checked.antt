@@ -1,5 +1,5 @@
 -- What the checks of a taken call have shown.
---     ramp-taken         what Feed and Read out begin with
+--     ramp-taken, ramp-passes     what Feed and Read out begin with, and back
 --     feed-taken, feedable        Feed
 --     read-out-taken, readable-frame     Read out
 -- and back: feed-passes, read-out-passes. And of a sound board: covered-is.
@@ -61,6 +61,10 @@ none-fails test l d n e =
     let t : ℕ → Bool = λ i. not (test (getD l i d)) in
     every-all test l d (λ i h. not-false _ (found-none t (length l) (found-taken (firstPlace (length l) t) n e) i h))
 
+pub ramp-passes : (b : Board) (n : ℕ) → RampTaken b n → verdict (rampChecks b n) ≡ Taken
+unfolding verdict
+ramp-passes b n t = rw (t .whole, t .running, eq-eqb _ _ (t .length-is))
+
 pub record FeedTaken (b : Board) (xs : List ℕ) (sums : List ℤ) : Type 0 where
   pub ramp : RampTaken b (length sums)
   pub room : b .fed + length xs ≤ wanted b
@@ -84,7 +88,7 @@ feed-taken b xs sums e =
 pub feed-passes : (b : Board) (xs : List ℕ) (sums : List ℤ) → FeedTaken b xs sums → verdict (feedChecks b xs sums) ≡ Taken
 unfolding verdict
 feed-passes b xs sums t =
-    rw (t .ramp .whole, t .ramp .running, eq-eqb _ _ (t .ramp .length-is), le-ltb _ _ (t .room), found-every readingInRange xs 0 (t .readings), t .stale)
+    rw (verdict-append (rampChecks b (length sums)), ramp-passes b (length sums) (t .ramp), le-ltb _ _ (t .room), found-every readingInRange xs 0 (t .readings), t .stale)
 
 pub feedable : (b : Board) (xs : List ℕ) (sums : List ℤ) → FeedTaken b xs sums → Feedable (b .«in_force») (b .fed) xs sums
 feedable b xs sums t =
@@ -124,7 +128,7 @@ read-out-taken b sums output e =
 pub read-out-passes : (b : Board) (sums : List ℤ) (output : List ℕ) → ReadOutTaken b sums (length output) → verdict (readOutChecks b sums output) ≡ Taken
 unfolding verdict
 read-out-passes b sums output t =
-    rw (t .ramp .whole, t .ramp .running, eq-eqb _ _ (t .ramp .length-is), le-ltb _ _ (t .full), eq-eqb _ _ (t .room), found-every (possible (b .«in_force» .samples)) sums (pos 0) (t .entries))
+    rw (verdict-append (rampChecks b (length sums)), ramp-passes b (length sums) (t .ramp), le-ltb _ _ (t .full), eq-eqb _ _ (t .room), found-every (possible (b .«in_force» .samples)) sums (pos 0) (t .entries))
 
 pub readable-frame : (b : Board) (sums : List ℤ) (output : List ℕ) → ReadOutTaken b sums (length output)
     → Readable (b .width) (b .height) (b .binned) (b .«in_force» .truncation) sums output

@@ -1,28 +1,32 @@
 // Read out.
 ghost use mathlib.Core.Path.{_≡_};
-ghost use mathlib.Core.Bool.{true};
+ghost use mathlib.Core.Bool.{true, cond};
 ghost use lib.ListN.{length};
 ghost use Rattle.checks.specs.Checks.{verdict};
 ghost use Rattle.words.specs.Frame.{wordCount};
-ghost use Rattle.board.specs.Board.{area};
+ghost use Rattle.board.specs.Board.{area, sidesTaken};
 ghost use Rattle.board.specs.Board as Def;
 ghost use Rattle.board.specs.Ramp.{outputChecks, readOutChecks, readOutOf, readOutWords};
 use crate::Board;
 use crate::Outcome;
+use crate::sound::sides_taken;
 use checks::Answer;
 use entries::first_impossible;
 use words::frame::write_frame;
 
 impl Board {
-    // How many words a frame has: one for each pixel, or each square.
+    // How many words a frame has: one for each pixel, or each square; 0 for sides that Open doesn't take.
     pub fn word_count(self) -> usize
-        requires { ⌜ Def.sound self ≡ true ⌝ }
-        ensures { λ r. ⌜ r ≡ wordCount (self .binned) (area self) ⌝ }
+        ensures { λ r. ⌜ r ≡ cond (sidesTaken (self .width) (self .height) (self .binned)) (wordCount (self .binned) (area self)) 0 ⌝ }
     {
-        if self.binned {
-            self.area() / 4
+        if sides_taken(self.width, self.height, self.binned) {
+            if self.binned {
+                self.area() / 4
+            } else {
+                self.area()
+            }
         } else {
-            self.area()
+            0
         }
     }
 

@@ -1,6 +1,6 @@
 // Which boards are sound.
 ghost use mathlib.Core.Path.{_≡_};
-ghost use mathlib.Core.Bool.{true};
+ghost use mathlib.Core.Bool.{true, cond};
 ghost use Rattle.board.specs.Board as Def;
 ghost use Rattle.board.specs.Board.{sideTaken, sidesTaken, unsound};
 use crate::Board;
@@ -28,12 +28,15 @@ impl Board {
         self.width * self.height
     }
 
-    // How many readings the ramp wants in all.
+    // How many readings the ramp wants in all; 0 for sides that Open doesn't take.
     pub fn wanted(self) -> usize
-        requires { ⌜ sidesTaken (self .width) (self .height) (self .binned) ≡ true ⌝ }
-        ensures { λ r. ⌜ r ≡ Def.wanted self ⌝ }
+        ensures { λ r. ⌜ r ≡ cond (sidesTaken (self .width) (self .height) (self .binned)) (Def.wanted self) 0 ⌝ }
     {
-        self.in_force.samples as usize * self.area()
+        if sides_taken(self.width, self.height, self.binned) {
+            self.in_force.samples as usize * self.area()
+        } else {
+            0
+        }
     }
 
     pub fn sound(self) -> bool

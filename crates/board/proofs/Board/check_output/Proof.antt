@@ -7,9 +7,6 @@ use Rattle.board.proofs.Soundness.{Sound, sound-parts}
 use Rattle.board.proofs.Board.check_output.Statement.{statement}
 use Rattle.board.proofs.Board.check_output.Tie as tie
 
-wanted-requires : tie.Need-wanted-requires
-wanted-requires c κs = sound-parts _ (c .before .pre) .sides
-
 first-impossible-requires : tie.Need-first-impossible-requires
 first-impossible-requires c κs = sound-parts _ (c .before .before .before .before .before .before .pre) .in-force .samples-high
 
@@ -18,6 +15,7 @@ unfolding verdict
 returns c =
     let f = c .before .before in
     let w = f .before .before .before .before in
+    let sides = sound-parts _ (w .before .before .before .before .pre) .sides in
     rw (
       c .then2 .ensures,
       c .before .then .ensures,
@@ -27,8 +25,9 @@ returns c =
       f .before .before .before .word-count .ensures,
       w .when .ensures,
       w .before .before .wanted .ensures,
+      sides,
       first-taken,
     )
 
 pub check-output-spec : {M : Type 1} → statement M
-check-output-spec = tie.close (tie.spec (λ c. search needs) wanted-requires (λ c κs. search needs) (λ c κs. search needs) (λ c κs. search needs) first-impossible-requires (λ c κs. search needs) (λ c κs. search needs) (λ c κs. search needs) returns)
+check-output-spec = tie.close (tie.spec (λ c. search needs) (λ c κs. search needs) (λ c κs. search needs) (λ c κs. search needs) (λ c κs. search needs) first-impossible-requires (λ c κs. search needs) (λ c κs. search needs) (λ c κs. search needs) returns)

@@ -18,11 +18,8 @@ module _ (s : tie.Start) where
   whole : Sound (s .args .self)
   whole = sound-parts _ (s .pre .0)
 
-wanted-requires : tie.Need-wanted-requires
-wanted-requires c κs = whole (c .before) .sides
-
 sub-if1 : tie.Need-sub-if1
-sub-if1 c = rw (c .wanted .ensures) (whole (c .before .before) .fed)
+sub-if1 c = rw (c .wanted .ensures, whole (c .before .before) .sides) (whole (c .before .before) .fed)
 
 returns : tie.Need-returns
 unfolding verdict
@@ -30,7 +27,7 @@ returns c =
     let s = c .before .before .before .before in
     let b = s .args .self in
     let f = whole s .fed in
-    let w = c .before .before .wanted .ensures in
+    let w = rw (whole s .sides) at (c .before .before .wanted .ensures) in
     rw (c .when .ensures, lt-ltb (wanted b) (b .fed + length (now (s .args .readings))) (omega arith))
 
 first-stale-requires : tie.Need-first-stale-requires
@@ -39,7 +36,7 @@ first-stale-requires c κs =
     let b = s .args .self in
     let z = sides-of b (whole s) in
     let f = whole s .fed in
-    let w = c .before .before .before .wanted .ensures in
+    let w = rw (whole s .sides) at (c .before .before .before .wanted .ensures) in
     let m = wanted-nine b (whole s) in
     rw (s .pre .1) (z .some, z .few, omega arith)
 
@@ -49,7 +46,7 @@ returns-2 c =
     let s = c .before .before .before .before .before .before .before .before in
     let b = s .args .self in
     let f = whole s .fed in
-    let w = c .before .before .before .before .before .before .wanted .ensures in
+    let w = rw (whole s .sides) at (c .before .before .before .before .before .before .wanted .ensures) in
     rw (
       c .then .ensures,
       c .before .found2 .ensures,
@@ -61,4 +58,4 @@ returns-2 c =
     )
 
 pub check-readings-spec : {M : Type 1} → statement M
-check-readings-spec = tie.close (tie.spec wanted-requires sub-if1 (λ c κs. search needs) returns (λ c κs. search needs) (λ c κs. search needs) first-stale-requires (λ c κs. search needs) (λ c κs. search needs) returns-2)
+check-readings-spec = tie.close (tie.spec (λ c κs. search needs) sub-if1 (λ c κs. search needs) returns (λ c κs. search needs) (λ c κs. search needs) first-stale-requires (λ c κs. search needs) (λ c κs. search needs) returns-2)

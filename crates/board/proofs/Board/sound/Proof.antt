@@ -6,19 +6,17 @@ use mathlib.Core.Path.{_≡_, sym, _∙_}
 use Rattle.board.proofs.Board.sound.Statement.{statement}
 use Rattle.board.proofs.Board.sound.Tie as tie
 
-wanted-requires : tie.Need-wanted-requires
-wanted-requires c κs = let d = c .before .before .before .before in sym (d .before .sides-taken .ensures) ∙ d .if1 .taken
-
 returns : tie.Need-returns
 unfolding sound
 returns c =
     let w = c .before .before .before in
     let d = w .before .before .before .before .before in
-    rw (sym (d .before .sides-taken .ensures) ∙ d .if1 .taken, ← w .wanted .ensures, ← w .before .in-range2 .ensures, ← w .before .before .in-range .ensures)
+    let sides = sym (d .before .sides-taken .ensures) ∙ d .if1 .taken in
+    rw (sides, ← rw sides at (w .wanted .ensures), ← w .before .in-range2 .ensures, ← w .before .before .in-range .ensures)
 
 returns-2 : tie.Need-returns-2
 unfolding sound
 returns-2 c = rw (sym (c .before .sides-taken .ensures) ∙ c .if1 .left)
 
 pub sound-spec : {M : Type 1} → statement M
-sound-spec = tie.close (tie.spec (λ c κs. search needs) (λ c κs. search needs) (λ c κs. search needs) wanted-requires returns returns-2)
+sound-spec = tie.close (tie.spec (λ c κs. search needs) (λ c κs. search needs) (λ c κs. search needs) (λ c κs. search needs) returns returns-2)

@@ -1,0 +1,2 @@
+-- What a frame's checks come to.
+pub mod Whole

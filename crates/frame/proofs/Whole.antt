@@ -1,0 +1,94 @@
+-- A ramp that is fed at once.
+--     started-unfed     a board that was opened, updated and started, or refused on the way, has nothing fed
+--     then-read-out     after a taken Feed only 15 and 16 of Read out can refuse
+use Prim.Native.Nat.{ℕ, _+_, _*_, _≤_, _<_}
+use mathlib.Core.Bool.{Bool, true, not}
+use mathlib.Core.List.{List, []}
+use mathlib.Core.Path.{_≡_, refl, _∙_}
+use borrow.Author.Tests.{ltb-false}
+use native.Mathlib.Omega.{arith}
+use lib.Dec.{ltb, eqb}
+use lib.IntN.{ℤ, pos}
+use lib.ListN.{length}
+use Rattle.laws.specs.Lists.{every}
+use Rattle.laws.proofs.Tests.{cases}
+use Rattle.checks.specs.declared.Answer.{Answer}
+use Rattle.checks.specs.declared.Answer.the-variants.{Taken, Refused}
+use Rattle.checks.specs.Checks.{when, first, verdict, byAnswer}
+use Rattle.checks.proofs.Laws.{first-taken, verdict-append}
+use Rattle.checks.proofs.Search.{found-every}
+use Rattle.entries.specs.Possible.{possible}
+use Rattle.ramp.specs.Step.{step}
+use Rattle.ramp.specs.Feed.{feedAll}
+use Rattle.ramp.proofs.Feeding.{feed-length}
+use Rattle.ramp.proofs.Agrees.{agrees-none, agrees-all}
+use Rattle.ramp.proofs.Honest.{all-possible}
+use Rattle.words.specs.Frame.{wordCount}
+use Rattle.board.specs.declared.Board.{Board}
+use Rattle.board.specs.Board.{area, wanted, extended}
+use Rattle.board.specs.Open.{openOf}
+use Rattle.board.specs.Update.{updateOf}
+use Rattle.board.specs.Ramp.{startOf, rampChecks, feedChecks, feedOf, fedSums, readOutChecks, readOutOf}
+use Rattle.board.proofs.Soundness.{sound-parts, sides-of, wanted-nine}
+use Rattle.board.proofs.Checked.{FeedTaken, feed-taken, ramp-passes}
+use Rattle.board.proofs.Laws as BoardLaws
+use Rattle.frame.specs.Chain.{started, readOut}
+
+unfed : (a : Answer) (new old : Board) → new .fed ≡ 0 → old .fed ≡ 0 → byAnswer a new old .fed ≡ 0
+unfed Taken new old p q = p
+unfed (Refused r) new old p q = q
+
+pub started-unfed : (w h : ℕ) (binned : Bool) (bytes : List ℕ) → started w h binned bytes .board .fed ≡ 0
+unfolding openOf updateOf startOf
+started-unfed w h binned bytes =
+    let o = unfed (openOf w h binned .answer) _ _ refl refl in
+    unfed (started w h binned bytes .answer) _ _ refl (unfed (updateOf (openOf w h binned .board) bytes .answer) _ _ o o)
+
+module _ (b : Board) (none : b .fed ≡ 0) (xs : List ℕ) (sums : List ℤ) (taken : verdict (feedChecks b xs sums) ≡ Taken) where
+  parts : FeedTaken b xs sums
+  parts = feed-taken b xs sums taken
+
+  -- the sums as Feed leaves them
+  left : List ℤ
+  left = feedAll (pos 0) (step (b .«in_force»)) (length sums) 0 xs sums
+
+  left-length : length left ≡ length sums
+  unfolding left
+  left-length = feed-length (pos 0) (step (b .«in_force»)) (length sums) xs 0 sums
+
+  -- where all readings came, every entry is possible for N
+  entries-possible : wanted b ≤ length xs → every (possible (b .«in_force» .samples)) left ≡ true
+  unfolding left
+  entries-possible full =
+      let s = b .«in_force» in
+      let m = length sums in
+      let w = sound-parts b (parts .ramp .whole) in
+      let r = w .in-force in
+      let l = parts .ramp .length-is in
+      let some : 0 < m = rw l (sides-of b w .some) in
+      let all : length xs ≡ s .samples * m = rw l (omega (arith, parts .room)) in
+      let few : length xs ≤ 9 * m = rw l (omega (arith, parts .room, wanted-nine b w)) in
+      all-possible s r m some xs (parts .readings) few left (agrees-all s r m some [] xs sums (agrees-none s r m some sums refl)) (s .samples) (r .samples-low) all
+
+  after : (output : List ℕ) → readOut b xs sums output .answer ≡ verdict (readOutChecks (extended (length xs) b) left output)
+  unfolding feedOf fedSums readOutOf left
+  after output = rw (taken, none)
+
+  ramp-after : verdict (rampChecks (extended (length xs) b) (length left)) ≡ Taken
+  unfolding feedOf
+  ramp-after =
+      ramp-passes _ _ (record {
+        whole = rw taken at (BoardLaws.laws .feed-sound b xs sums) ∙ parts .ramp .whole;
+        running = parts .ramp .running;
+        length-is = left-length ∙ parts .ramp .length-is;
+      })
+
+  pub then-read-out : (output : List ℕ) → readOut b xs sums output .answer
+      ≡ first (when (ltb (length xs) (wanted b)) 15) (when (not (eqb (length output) (wordCount (b .binned) (area b)))) 16)
+  unfolding verdict
+  then-read-out output =
+      let z : b .fed + length xs ≡ length xs = omega arith in
+      rw (after output, verdict-append (rampChecks (extended (length xs) b) (length left)), ramp-after, z)
+      (cases (ltb (length xs) (wanted b))
+      (λ e. rw e)
+      (λ e. rw (e, found-every (possible (b .«in_force» .samples)) left (pos 0) (entries-possible (ltb-false _ _ e))) (first-taken _)))
