@@ -5,7 +5,7 @@ use checks::Answer;
 
 mod covered;
 pub mod ranges;
-mod record;
+pub mod record;
 mod update;
 
 pub struct Settings {

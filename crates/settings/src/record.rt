@@ -18,8 +18,8 @@ pub fn stands(n: u16, i: usize) -> bool
     n >> i & 1 == 1
 }
 
-// A byte of the record, 0 past its end.
-fn byte(bytes: &[u8], at: usize) -> u8
+// A byte, 0 past the end.
+pub fn byte(bytes: &[u8], at: usize) -> u8
     ensures { λ r. ⌜ r ≡ getD (now (bytes .entry)) at 0 ⌝ }
 {
     if at < bytes.len() { bytes[at] } else { 0 }
@@ -27,7 +27,7 @@ fn byte(bytes: &[u8], at: usize) -> u8
 
 // The two bytes at a place, low byte first.
 pub fn pair(bytes: &[u8], at: usize) -> u16
-    requires { ⌜ at < 1000 ⌝ }
+    requires { ⌜ at < 1000000 ⌝ }
     ensures { λ r. ⌜ r ≡ pairAt (now (bytes .entry)) at ⌝ }
 {
     byte(bytes, at) as u16 + 256 * byte(bytes, at + 1) as u16

@@ -1,0 +1,407 @@
+"""Tests of the second program: known ramps, refusals, and properties."""
+
+from __future__ import annotations
+
+import re
+import subprocess
+import sys
+import unittest
+from pathlib import Path
+
+import jig
+import make_jig
+import make_replay
+import replay
+from draws import Draws, draw_bad_record, draw_ramp, draw_record, encode_record
+from ramp import (
+    MARK,
+    MAX_PRODUCT,
+    NEGATIVE,
+    PEDESTAL,
+    SATURATED,
+    Board,
+    Refusal,
+    Settings,
+    frame_of,
+    open_board,
+    possible,
+    read_word,
+    updated,
+    word_of,
+)
+
+HERE = Path(__file__).resolve().parent
+JIG_EXAMPLE = bytes.fromhex("02 00 01 00 00 04 01 08 01 01 00 00 FF 3F")
+JIG_EXAMPLE_OUTPUT = (
+    "row col word meaning\n0 0 32 128..132\n0 1 4127 16508..16512\n"
+)
+
+
+def opened(width: int, height: int, binned: bool = False) -> Board:
+    """A board that Open must take."""
+    board = open_board(width, height, binned)
+    assert isinstance(board, Board)
+    return board
+
+
+def one_pixel(fields: dict[int, int], readings: list[int]) -> tuple[int, int]:
+    """The sum and the word of a ramp on a board of one pixel."""
+    board, sums, output = opened(1, 1), [0], [0]
+    assert board.update(encode_record(fields)) is None
+    assert board.start() is None
+    assert board.feed(readings, sums) is None
+    assert board.read_out(sums, output) is None
+    return sums[0], output[0]
+
+
+def feed_one_by_one(
+    sums: list[int], fed: int, readings: list[int], settings: Settings
+) -> None:
+    """The rules of a feed, reading by reading."""
+    for number, reading in enumerate(readings, fed):
+        sample, pixel = number // len(sums) + 1, number % len(sums)
+        if sample > 1 and MARK < sums[pixel] <= MARK + 9:
+            continue
+        if reading > settings.threshold:
+            sums[pixel] = MARK + sample
+        else:
+            base = PEDESTAL if sample == 1 else sums[pixel]
+            sums[pixel] = base + settings.weights[sample - 1] * reading
+
+
+class KnownRamps(unittest.TestCase):
+    """Ramps whose words are known."""
+
+    def test_default_ramps(self) -> None:
+        self.assertEqual(one_pixel({}, [1_000] * 9), (128, 32))
+        self.assertEqual(one_pixel({}, list(range(100, 1_000, 100))), (6_128, 1_532))
+        self.assertEqual(one_pixel({}, list(range(900, 0, -100))), (-5_872, NEGATIVE))
+
+    def test_saturation(self) -> None:
+        readings = [13_000] * 9
+        self.assertLess(one_pixel({9: 13_000}, readings)[0], MARK)
+        readings[2] = readings[6] = 13_001
+        self.assertEqual(one_pixel({9: 13_000}, readings), (MARK + 3, 32_755))
+
+    def test_sign(self) -> None:
+        self.assertEqual(one_pixel({0: 17, 11: 1}, [128]), (0, 0))
+        self.assertEqual(one_pixel({0: 17, 11: 1}, [129]), (-1, NEGATIVE))
+
+    def test_wrapping(self) -> None:
+        weights = {bit: 15 for bit in range(9)}
+        full = [16_383] * 9
+        self.assertEqual(one_pixel({**weights, 10: 2}, full), (2_211_833, 28_670))
+        self.assertEqual(one_pixel({**weights, 10: 3}, full), (2_211_833, 14_335))
+        self.assertEqual(one_pixel({0: 15, 11: 1}, [8_726]), (131_018, 32_754))
+        self.assertEqual(read_word(32_754, 2), ("saturated", 2))
+        self.assertEqual(word_of([32_768 * 4 + 9], 2), 2)
+        for fields in ({**weights, 10: 2}, {**weights, 10: 3}, {0: 15, 11: 1}):
+            settings = updated(Settings(), encode_record(fields))
+            assert isinstance(settings, Settings)
+            self.assertFalse(settings.covered())
+
+    def test_squares(self) -> None:
+        self.assertEqual(word_of([7, 7, 7, 3], 2), 1)
+        self.assertEqual(word_of([-1, 0, 0, 0], 2), NEGATIVE)
+        self.assertEqual(word_of([-1, 0, 0, 2], 2), 0)
+        self.assertEqual(word_of([MARK + 5, -9, MARK + 2, -9], 2), 32_754)
+        # Four columns, two rows: two squares side by side.
+        self.assertEqual(frame_of([7, 7, -1, 0, 7, 3, 0, 2], 4, 2, True, 2), [1, 0])
+
+    def test_records(self) -> None:
+        record = bytes.fromhex("00 06 1F 33 03")
+        expected = Settings(threshold=13_087, truncation=3)
+        self.assertEqual(updated(Settings(), record), expected)
+        self.assertEqual(updated(Settings(), [0, 0]), Settings())
+        for byte, weight in ((20, -4), (31, -15), (16, 0), (15, 15)):
+            settings = updated(Settings(), [1, 0, byte])
+            assert isinstance(settings, Settings)
+            self.assertEqual(settings.weights[0], weight)
+
+    def test_covered(self) -> None:
+        self.assertTrue(Settings(threshold=13_087).covered())
+        self.assertFalse(Settings(threshold=13_088).covered())
+
+    def test_update_waits_for_the_next_start(self) -> None:
+        board = opened(1, 1)
+        board.update([0, 6, 0x1F, 0x33, 3])
+        self.assertEqual(board.in_force, Settings())
+        self.assertIs(board.covered(), False)
+        board.start()
+        board.update([0, 8, 1])
+        self.assertEqual((board.in_force.samples, board.waiting.samples), (9, 1))
+        self.assertIs(board.covered(), True)
+        board.drop()
+        self.assertEqual(board.in_force.truncation, 3)
+        self.assertEqual(board.waiting.samples, 1)
+
+
+    def test_second_ramp_starts_afresh(self) -> None:
+        board, sums, output = opened(1, 1), [0], [0]
+        board.start()
+        board.feed([1, 2, 3], sums)
+        self.assertIsNone(board.drop())
+        self.assertEqual((board.running, board.fed, sums), (False, 0, [112]))
+        for _ in range(2):
+            self.assertIsNone(board.start())
+            self.assertIsNone(board.feed([1_000] * 9, sums))
+            self.assertIsNone(board.read_out(sums, output))
+            self.assertEqual((sums, output, board.fed), ([128], [32], 0))
+
+
+class Refusals(unittest.TestCase):
+    """Numbers, places and the order of the checks."""
+
+    def test_open(self) -> None:
+        for sides in make_replay.REFUSED:
+            self.assertEqual(open_board(*sides[:2], sides[2] == 1), Refusal(1))
+        for sides in ((1, 1, False), (1024, 1024, True), (1023, 1, False)):
+            self.assertIsInstance(open_board(*sides), Board)
+
+    def test_update(self) -> None:
+        draws = Draws(7)
+        for number in range(2, 9):
+            for _ in range(200):
+                board = opened(1, 1)
+                record = draw_bad_record(draws, number)
+                self.assertEqual(board.update(record), Refusal(number))
+                self.assertEqual(board, opened(1, 1))
+        for _ in range(200):
+            self.assertIsNone(opened(1, 1).update(draw_record(draws)))
+
+    def test_unsound_boards(self) -> None:
+        unsound = [
+            Board(),
+            Board(3, 2, True),
+            Board(2, 2, waiting=Settings(samples=0)),
+            Board(2, 2, in_force=Settings(truncation=4)),
+            Board(2, 2, in_force=Settings(weights=(0,) * 8 + (16,))),
+            Board(1, 1, running=False, readings=[5]),
+            Board(1, 1, running=True, readings=[5] * 10),
+        ]
+        for board in unsound:
+            answers = [board.update([]), board.start(), board.feed([], [])]
+            answers += [board.read_out([], []), board.drop(), board.covered()]
+            self.assertEqual(answers, [Refusal(99)] * 6)
+
+    def test_order_without_a_ramp(self) -> None:
+        board = opened(2, 1)
+        self.assertEqual(board.feed([20_000] * 99, []), Refusal(10))
+        self.assertEqual(board.read_out([], []), Refusal(10))
+        self.assertEqual(board.drop(), Refusal(10))
+
+    def test_order_in_a_ramp(self) -> None:
+        board, bad = opened(2, 1), MARK
+        board.start()
+        self.assertEqual(board.start(), Refusal(9))
+        self.assertEqual(board.feed([20_000] * 99, []), Refusal(11))
+        self.assertEqual(board.feed([20_000] * 19, [0, 0]), Refusal(12))
+        sums = [bad, bad]
+        self.assertIsNone(board.feed([1, 2], sums))
+        self.assertEqual(board.feed([1, 20_000, 20_001], [bad, bad]), Refusal(13, 1))
+        self.assertEqual(board.feed([1, 2], [bad, bad]), Refusal(14, 0))
+        self.assertEqual(board.feed([1], [128, bad]), None)
+        # Pixel 0 has two samples, pixel 1 has one; a feed of two starts at pixel 1.
+        low = PEDESTAL - 2 * MAX_PRODUCT
+        self.assertEqual(board.feed([1, 2], [low - 1, bad]), Refusal(14, 0))
+        self.assertEqual(board.feed([1, 2], [low, MARK + 2]), Refusal(14, 1))
+        self.assertEqual(board.feed([1], [bad, low]), Refusal(14, 1))
+        self.assertIsNone(board.feed([], [bad, bad]))
+        self.assertEqual(board.read_out([], []), Refusal(11))
+        self.assertEqual(board.read_out([bad, bad], []), Refusal(15))
+        self.assertIsNone(board.feed([0] * 15, sums))
+        self.assertIsNone(board.feed([], [bad, bad]))
+        self.assertEqual(board.read_out([bad, bad], [0]), Refusal(16))
+        output = [9, 9]
+        self.assertEqual(board.read_out([0, bad], output), Refusal(14, 1))
+        self.assertEqual(output, [9, 9])
+        self.assertIsNone(board.read_out([0, MARK + 9], output))
+        self.assertEqual(output, [0, 32_761])
+
+    def test_read_out_knows_its_samples(self) -> None:
+        board, top = opened(1, 1), PEDESTAL + 2 * MAX_PRODUCT
+        board.update([0, 8, 2])
+        board.start()
+        board.feed([1, 1], [0])
+        for entry in (top + 1, MARK, MARK + 3, 256 - top - 1):
+            self.assertEqual(board.read_out([entry], [0]), Refusal(14, 0))
+        self.assertIsNone(board.read_out([top], [0]))
+
+    def test_words(self) -> None:
+        for truncation in (0, 4, 255):
+            self.assertEqual(read_word(5, truncation), Refusal(7))
+        kinds = [read_word(word, 3)[0] for word in range(65_536)]
+        expected = ["ordinary"] * SATURATED + ["none"] + ["saturated"] * 9
+        expected += ["none"] * 5 + ["negative"] + ["none"] * 32_768
+        self.assertEqual(kinds, expected)
+        self.assertEqual(read_word(32_751, 3), ("ordinary", 262_008.0, 262_016.0))
+
+
+class Properties(unittest.TestCase):
+    """What holds for every drawn ramp."""
+
+    def test_feed_is_the_rule_reading_by_reading(self) -> None:
+        draws = Draws(11)
+        for _ in range(300):
+            width, height = draws.between(1, 4), draws.between(1, 4)
+            board = opened(width, height)
+            board.update(draw_record(draws))
+            board.start()
+            pixels, settings = board.pixels, board.in_force
+            ramp = draw_ramp(draws, pixels, settings.samples, settings.threshold)
+            sums = [draws.choose((0, MARK + 1, -(2**31)))] * pixels
+            naive = list(sums)
+            while board.wanted > 0:
+                count = draws.below(min(board.wanted, 2 * pixels) + 1)
+                part = ramp[board.fed : board.fed + count]
+                feed_one_by_one(naive, board.fed, part, settings)
+                self.assertIsNone(board.feed(part, sums))
+                self.assertEqual(sums, naive)
+            self.assertTrue(all(possible(s, settings.samples) for s in sums))
+
+    def test_frame_follows_from_the_readings(self) -> None:
+        draws = Draws(12)
+        for _ in range(300):
+            binned = draws.chance(50)
+            width, height = 2 * draws.between(1, 3), 2 * draws.between(1, 3)
+            board = opened(width, height, binned)
+            board.update(draw_record(draws))
+            board.start()
+            pixels, now = board.pixels, board.in_force
+            ramp = draw_ramp(draws, pixels, now.samples, now.threshold)
+            sums, output = [0] * pixels, [0] * board.words
+            for at in range(0, len(ramp), 5):
+                board.feed(ramp[at : at + 5], sums)
+            covered = board.covered()
+            self.assertIsNone(board.read_out(sums, output))
+            for index, word in enumerate(output):
+                members = [index]
+                if binned:
+                    row, column = divmod(index, width // 2)
+                    corner = 2 * row * width + 2 * column
+                    members = [corner, corner + 1, corner + width, corner + width + 1]
+                samples = [ramp[p::pixels] for p in members]
+                self.check_word(word, samples, now, covered is True)
+
+    def check_word(
+        self, word: int, samples: list[list[int]], now: Settings, covered: bool
+    ) -> None:
+        """A word against the exact sums of its pixels."""
+        over = [
+            n
+            for readings in samples
+            for n, reading in enumerate(readings, 1)
+            if reading > now.threshold
+        ]
+        total = sum(
+            128 + sum(w * x for w, x in zip(now.weights, readings))
+            for readings in samples
+        )
+        meaning = read_word(word, now.truncation)
+        if over:
+            self.assertEqual(meaning, ("saturated", min(over)))
+        elif total < 0:
+            self.assertEqual(meaning, ("negative",))
+        elif covered:
+            self.assertEqual(meaning[0], "ordinary")
+            mean = total / len(samples)
+            self.assertTrue(meaning[1] <= mean < meaning[2])
+
+    def test_covered_is_the_largest_unmarked_sum(self) -> None:
+        draws = Draws(13)
+        for _ in range(500):
+            settings = updated(Settings(), draw_record(draws))
+            assert isinstance(settings, Settings)
+            high = [settings.threshold if w > 0 else 0 for w in settings.weights]
+            total = 128 + sum(
+                w * x
+                for w, x in zip(settings.weights[: settings.samples], high)
+            )
+            reached = total // 2**settings.truncation >= SATURATED
+            self.assertEqual(settings.covered(), not reached)
+
+    def test_refused_feed_changes_nothing(self) -> None:
+        board = opened(2, 2)
+        board.start()
+        sums = [1, 2, 3, 4]
+        for readings in ([5] * 37, [1, 2, 16_384]):
+            before = repr(board)
+            self.assertIsNotNone(board.feed(readings, sums))
+            self.assertEqual((sums, repr(board)), ([1, 2, 3, 4], before))
+
+
+class Jig(unittest.TestCase):
+    """The jig and its made inputs."""
+
+    def test_example(self) -> None:
+        self.assertEqual(jig.run(JIG_EXAMPLE), JIG_EXAMPLE_OUTPUT)
+        done = subprocess.run(
+            [sys.executable, str(HERE / "jig.py")],
+            input=JIG_EXAMPLE,
+            capture_output=True,
+            check=True,
+        )
+        self.assertEqual(done.stdout.decode("ascii"), JIG_EXAMPLE_OUTPUT)
+
+    def test_every_kind_of_input(self) -> None:
+        draws = Draws(14)
+        for expected, maker in make_jig.KINDS:
+            for _ in range(15):
+                first = jig.run(maker(draws)).split("\n")[0]
+                if expected == 0:
+                    self.assertEqual(first, "row col word meaning", maker.__name__)
+                elif expected is not None:
+                    self.assertEqual(first, f"refused {expected}", maker.__name__)
+
+    def test_all_meanings_occur(self) -> None:
+        text = "".join(output for _, output in make_jig.make(15, 200))
+        for pattern in (r"sat [1-9]\n", r"neg\n", r"none\n", r"\d\.\.\d"):
+            self.assertIsNotNone(re.search(pattern, text), pattern)
+
+    def test_same_seed_same_files(self) -> None:
+        self.assertEqual(make_jig.make(16, 30), make_jig.make(16, 30))
+
+
+class Replay(unittest.TestCase):
+    """The replay program and its made scripts."""
+
+    def test_described_example(self) -> None:
+        page = (HERE.parent.parent / "docs" / "REPLAY.md").read_text("utf-8")
+        script, output = page.split("## Example\n")[1].split("\nprints\n")
+        text = replay.run(re.sub("(?m)^    ", "", script.strip("\n")).encode("ascii"))
+        self.assertEqual(text, re.sub("(?m)^    ", "", output.strip("\n")) + "\n")
+
+    def test_malformed(self) -> None:
+        draws = Draws(17)
+        for _ in range(300):
+            script = make_replay.spoil(draws, b"open 2 2 0\nstart\nfeed 2 1 2\n")
+            self.assertRegex(replay.run(script), r"\Amalformed line [123]\n\Z")
+        self.assertEqual(replay.run(b"#" * 1_048_577), "script too long\n")
+        self.assertEqual(replay.run(b"#" * 1_048_576), "")
+        self.assertEqual(replay.run(b"\n\n# \xff\n\nfoo"), "malformed line 5\n")
+
+    def test_made_scripts_reach_every_refusal(self) -> None:
+        seen: set[int] = set()
+        intervals: set[str] = set()
+        for script, _ in make_replay.make(18, 64):
+            commands = replay.parse_script(script)
+            if isinstance(commands, str):
+                continue
+            player = replay.Player()
+            for name, numbers in commands:
+                fed, pixels = player.board.fed, player.board.pixels
+                first = player.play(name, numbers)[0].split(" ")
+                if first[0] == "refused":
+                    seen.add(int(first[1]))
+                    if first[1] == "14":
+                        low = name != "readout" and int(first[2]) < fed % pixels
+                        intervals.add(name if name == "readout" else str(low))
+        self.assertEqual(seen, {*range(1, 17), 99})
+        self.assertEqual(intervals, {"readout", "True", "False"})
+
+    def test_same_seed_same_files(self) -> None:
+        self.assertEqual(make_replay.make(19, 16), make_replay.make(19, 16))
+
+
+if __name__ == "__main__":
+    unittest.main()
