@@ -3,14 +3,13 @@
 --     feed-taken, feedable        Feed
 --     read-out-taken, readable-frame     Read out
 -- and back: feed-passes, read-out-passes. And of a sound board: covered-is.
-use Prim.Native.Nat.{ℕ, _+_, _*_, _≤_}
+use Prim.Native.Nat.{ℕ, _+_, _≤_}
 use mathlib.Core.Bool.{Bool, true, false, not, cond}
-use mathlib.Core.List.{List, [], _∷_}
+use mathlib.Core.List.{List}
 use mathlib.Core.Logic.{_↔_}
 use mathlib.Core.Path.{_≡_, refl, sym, _∙_}
 use borrow.Author.Tests.{ltb-false, le-ltb, le-leb, eqb-true, eq-eqb, not-false}
 use native.Mathlib.Omega.{arith}
-use lib.Dec.{ltb, eqb}
 use lib.IntN.{ℤ, pos}
 use lib.ListN.{length, getD}
 use Rattle.laws.specs.Lists.{every}
@@ -36,7 +35,7 @@ use Rattle.board.specs.declared.Coverage.the-variants.{Covered, Uncovere
 use Rattle.board.specs.Board.{area, wanted, sound}
 use Rattle.board.specs.Ramp.{rampChecks, readingChecks, feedChecks, outputChecks, readOutChecks}
 use Rattle.board.specs.Covered.{coverageOf}
-use Rattle.board.proofs.Soundness.{Sound, Sides, sound-parts, sides-of, wanted-nine}
+use Rattle.board.proofs.Soundness.{sound-parts, sides-of, wanted-nine}
 
 pub record RampTaken (b : Board) (sumsLength : ℕ) : Type 0 where
   pub whole : sound b ≡ true

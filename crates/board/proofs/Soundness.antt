@@ -2,8 +2,8 @@
 --     side-parts, Sides, sides-parts     the sides that Open takes
 --     Sound, sound-parts, sound-whole    a sound board
 use Prim.Native.Nat.{ℕ, _*_, _%_, _≤_, _<_}
-use mathlib.Core.Bool.{Bool, true, false, not, _&&_, _||_}
-use mathlib.Core.Path.{_≡_, refl}
+use mathlib.Core.Bool.{Bool, true, not, _&&_}
+use mathlib.Core.Path.{_≡_}
 use borrow.Author.Tests.{leb-true, le-leb, eqb-false, not-true}
 use native.Mathlib.Nat.{mul-le-mul, mul-pos}
 use native.Mathlib.Omega.{arith}

@@ -1,5 +1,5 @@
 -- Covered: its one refusal is 99.
-use mathlib.Core.Bool.{Bool, cond}
+use mathlib.Core.Bool.{cond}
 use mathlib.Core.List.{List, [], _∷_}
 use Rattle.settings.specs.Covered.{isCovered}
 use Rattle.checks.specs.declared.Answer.{Answer}

@@ -1,12 +1,12 @@
 -- Readings are in range exactly where the bits of all of them together are.
-use Prim.Native.Nat.{ℕ, _+_, _≤_, _<_}
-use mathlib.Core.Bool.{Bool, true, false, _&&_}
-use mathlib.Core.Path.{_≡_, refl, sym, _∙_}
+use Prim.Native.Nat.{ℕ, _≤_}
+use mathlib.Core.Bool.{_&&_}
+use mathlib.Core.Path.{_≡_}
 use native.Mathlib.Omega.{arith}
 use borrow.Author.Tests.{leb-true, leb-false, le-leb, lt-leb}
 use lib.Bits.{bitOr, or-lt, or-add-and, and-le-l, and-le-r}
 use lib.Dec.{leb}
-use Rattle.laws.proofs.Tests.{cases, and-right}
+use Rattle.laws.proofs.Tests.{cases}
 use Rattle.entries.specs.Possible.{maxReading, readingInRange}
 
 above : (a b : ℕ) → (a ≤ bitOr a b) × (b ≤ bitOr a b)

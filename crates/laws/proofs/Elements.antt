@@ -7,10 +7,9 @@ use mathlib.Core.Path.{_≡_, refl, sym}
 use mathlib.Core.Bool.{Bool, true, _&&_}
 use mathlib.Core.List.{List, [], _∷_, _++_}
 use Prim.Native.Nat.{ℕ, zero, suc, _<_}
-use native.Mathlib.Omega.{arith}
-use lib.ListN.{length, getD, set}
+use lib.ListN.{getD, set}
 use Rattle.laws.specs.Lists.{each, every}
-use Rattle.laws.proofs.Tests.{and-true, true-and, and-assoc}
+use Rattle.laws.proofs.Tests.{and-assoc}
 use Rattle.laws.proofs.Each.{each-length, each-at}
 use Rattle.laws.proofs.Every.{every-at, every-all}
 

@@ -1,6 +1,5 @@
 -- The laws of `firstOf` and of `sumTo`, over the numbers from 1 to k.
 --     first-says                what `firstOf` finds is the first; where it finds none, the test holds nowhere
---     first-some, first-none    the same, from its value
 --     first-found, first-not    and back
 --     first-same, sum-same      they turn only on the values from 1 to k
 --     nowhere-any               where none of several tests holds, each holds nowhere
@@ -38,12 +37,6 @@ module _ (t : ℕ → Bool) where
   unfolding firstOf
   first-says zero = λ n a l. absurd (omega arith)
   first-says (suc k) = one-more k (firstOf k t) (first-says k) (t (suc k)) refl
-
-  pub first-some : (k n : ℕ) → firstOf k t ≡ some n → First t k n
-  first-some k n e = rw e at (first-says k)
-
-  pub first-none : (k : ℕ) → firstOf k t ≡ none → Nowhere t k
-  first-none k e = rw e at (first-says k)
 
   only : (k n m : ℕ) → First t k n → First t k m → n < m → ⊥
   only k n m f g l = clash (sym (f .holds) ∙ g .none-before n (f .low) l)

@@ -1,6 +1,6 @@
 -- ℤ for `omega`: each integer z is read as the difference of two naturals, `up z - dn z`, of which one is 0. A sum, a test and a range of integers
 -- are then linear facts about `up` and `dn`, which `omega` reads as unknowns.
---     sum, neg-up, neg-dn, times-up, times-dn     the two parts of a sum, a negation and a product with a natural
+--     sum, neg-up, neg-dn, times-up               the parts of a sum, a negation and a product with a natural
 --     scaled                                      the bound of a product
 --     le-true .. lt-false                         what a test of order says; is-le, not-le the test's value from the fact
 --     signed                                      `omega`'s list with the tests of order: `omega signed`, `omega (signed, sum a b)`
@@ -12,14 +12,14 @@ use mathlib.Core.Bool.{Bool, true, false, cond}
 use Prim.Native.Nat.{ℕ, zero, suc, _+_, _-_, _*_, _<_, _≤_, _^_, zero-le}
 use native.Mathlib.Omega.{arith}
 use native.Mathlib.Nat.{zero-mul, mul-le-mul}
-use lib.Dec.{T, ltb, leb}
-use lib.IntN.{ℤ, pos, negsuc, negℤ, subℕ, _+ℤ_, _-ℤ_, _*ℤ_}
+use lib.Dec.{T, ltb}
+use lib.IntN.{ℤ, pos, negsuc, negℤ, subℕ, _+ℤ_, _*ℤ_}
 use lib.Signed.{mag, ltZ, leZ}
 use mir.Syntax.{Width}
 use mir.Val.{SFits, hbits, toZ, ofZ}
 use mir.Facts.{toZ-ofZ}
 use Rattle.laws.proofs.Tests.{clash, is-true}
-use borrow.Author.Tests.{ltb-true, ltb-false, leb-true, leb-false, lt-ltb, le-ltb, le-leb, lt-leb}
+use borrow.Author.Tests.{ltb-true, ltb-false, leb-true, leb-false, le-leb, lt-leb}
 
 abbrev pub up : ℤ → ℕ
 up (pos n) = n
@@ -57,10 +57,6 @@ neg-dn (negsuc a) = refl
 pub times-up : (a : ℤ) (n : ℕ) → up (a *ℤ pos n) ≡ up a * n
 times-up (pos a) n = refl
 times-up (negsuc a) n = neg-up (pos (suc a * n)) ∙ sym (zero-mul n)
-
-pub times-dn : (a : ℤ) (n : ℕ) → dn (a *ℤ pos n) ≡ dn a * n
-times-dn (pos a) n = sym (zero-mul n)
-times-dn (negsuc a) n = neg-dn (pos (suc a * n))
 
 -- z within k, times a natural within b
 pub scaled : (z : ℤ) (r k b : ℕ) → (up z ≤ dn z + k) × (dn z ≤ up z + k) → r ≤ b → (up (z *ℤ pos r) ≤ k * b) × (dn (z *ℤ pos r) ≤ k * b)

@@ -3,14 +3,14 @@
 --     feed-append     some readings, and then some more
 --     feed-past       a pixel that no reading has reached is as it was
 --     feed-part       readings that stay within one sample: `over` at the part of the sums that they reach
-use Prim.Native.Nat.{ℕ, zero, suc, _+_, _*_, _/_, _%_, _≤_, _<_}
+use Prim.Native.Nat.{ℕ, suc, _+_, _*_, _%_, _≤_, _<_}
 use mathlib.Core.List.{List, [], _∷_, _++_, append-assoc}
 use mathlib.Core.Path.{_≡_, refl, sym, ap, _∙_}
 use native.Mathlib.Nat.{add-zero, add-suc, suc-add, mod-le}
 use native.Mathlib.Omega.{arith}
 use lib.Arith.{digits-div, digits-mod}
 use lib.ListN.{length, getD, take, drop, set, length-set, take-append-drop}
-use lib.Seq.{take-suc-set, drop-set-lt, drop-cons, append-snoc, getD-set-other}
+use lib.Seq.{take-suc-set, drop-set-lt, drop-cons, getD-set-other}
 use Rattle.laws.specs.Lists.{over}
 use Rattle.laws.proofs.Over.{over-part}
 use Rattle.ramp.specs.Feed.{feedOne, feedAll}

@@ -6,7 +6,7 @@
 use Prim.Native.Nat.{ℕ, zero, suc, _+_, _*_, _≤_, _<_}
 use mathlib.Core.Bool.{Bool, true, false, cond}
 use mathlib.Core.Logic.{_⊎_, inl, inr, ⊎-elim}
-use mathlib.Core.Path.{_≡_, refl, sym, ap, subst}
+use mathlib.Core.Path.{_≡_, refl}
 use native.Mathlib.Omega.{arith}
 use borrow.Author.Tests.{leb-true}
 use lib.IntN.{ℤ, pos, negℤ, _+ℤ_, _*ℤ_}
@@ -16,7 +16,7 @@ use Rattle.laws.proofs.Ints.{up, dn, sum, scaled, signed, is-le, not-le}
 use Rattle.settings.specs.declared.Settings.{Settings}
 use Rattle.settings.specs.Settings.{weightInRange, weightAt}
 use Rattle.settings.proofs.Parts.{InRange}
-use Rattle.entries.specs.Mark.{mark, marked}
+use Rattle.entries.specs.Mark.{mark}
 use Rattle.entries.specs.Possible.{maxReading, maxProduct, readingInRange, possible}
 use Rattle.entries.proofs.Possible.{Mark, Near, fair, is-fair}
 use Rattle.ramp.specs.Step.{overIt, ground, onGround, step}

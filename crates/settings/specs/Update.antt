@@ -1,6 +1,6 @@
 -- Update: its checks, the settings that would result, and its outcome.
 use Prim.Native.Nat.{ℕ, zero, suc, _^_}
-use mathlib.Core.Bool.{Bool, cond, not}
+use mathlib.Core.Bool.{cond, not}
 use mathlib.Core.List.{List, _∷_}
 use lib.Dec.{leb, ltb, eqb}
 use lib.ListN.{length, set}

@@ -4,7 +4,6 @@ use mathlib.Core.Bool.{_&&_}
 use Prim.Native.Nat.{_≤_, _-_}
 use native.Mathlib.Omega.{arith}
 use borrow.Author.Needs.{needs}
-use lib.Dec.{leb}
 use lib.ListN.{length, drop, getD}
 use denote.Ref.{now}
 use Rattle.laws.specs.Lists.{every}

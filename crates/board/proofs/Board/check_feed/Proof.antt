@@ -1,8 +1,7 @@
 -- `board::Board::check_feed` meets its contract.
-use mathlib.Core.Path.{_≡_, sym, _∙_}
+use mathlib.Core.Path.{sym, _∙_}
 use borrow.Author.Needs.{needs}
 use Rattle.checks.proofs.Laws.{verdict-append}
-use Rattle.board.specs.Ramp.{rampChecks, readingChecks}
 use Rattle.board.proofs.Checked.{ramp-taken}
 use Rattle.board.proofs.Board.check_feed.Statement.{statement}
 use Rattle.board.proofs.Board.check_feed.Tie as tie

@@ -1,9 +1,8 @@
 -- `board::Board::check_output` meets its contract.
-use mathlib.Core.Path.{_≡_}
 use borrow.Author.Needs.{needs}
 use Rattle.checks.specs.Checks.{verdict}
 use Rattle.checks.proofs.Laws.{first-taken}
-use Rattle.board.proofs.Soundness.{Sound, sound-parts}
+use Rattle.board.proofs.Soundness.{sound-parts}
 use Rattle.board.proofs.Board.check_output.Statement.{statement}
 use Rattle.board.proofs.Board.check_output.Tie as tie
 

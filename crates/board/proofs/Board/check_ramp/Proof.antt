@@ -1,9 +1,9 @@
 -- `board::Board::check_ramp` meets its contract.
-use Rattle.board.proofs.Soundness.{Sound, sound-parts}
+use Rattle.board.proofs.Soundness.{sound-parts}
 use Rattle.checks.specs.Checks.{verdict}
 use Rattle.checks.proofs.Laws.{first-taken}
 use borrow.Author.Needs.{needs}
-use mathlib.Core.Path.{_≡_, sym, _∙_}
+use mathlib.Core.Path.{sym, _∙_}
 use Rattle.board.proofs.Board.check_ramp.Statement.{statement}
 use Rattle.board.proofs.Board.check_ramp.Tie as tie
 

@@ -1,5 +1,5 @@
 -- `board::Board::check_read_out` meets its contract.
-use mathlib.Core.Path.{_≡_, sym, _∙_}
+use mathlib.Core.Path.{sym, _∙_}
 use borrow.Author.Needs.{needs}
 use Rattle.checks.proofs.Laws.{verdict-append}
 use Rattle.board.proofs.Checked.{ramp-taken}

@@ -1,6 +1,5 @@
 -- `board::Board::check_readings` meets its contract.
-use Prim.Native.Nat.{_+_, _*_, _≤_, _<_}
-use mathlib.Core.Path.{_≡_, sym, _∙_}
+use Prim.Native.Nat.{_+_}
 use native.Mathlib.Omega.{arith}
 use borrow.Author.Needs.{needs}
 use borrow.Author.Tests.{lt-ltb, le-ltb}
@@ -8,8 +7,8 @@ use lib.ListN.{length}
 use denote.Ref.{now}
 use Rattle.checks.specs.Checks.{verdict}
 use Rattle.checks.proofs.Laws.{first-taken}
-use Rattle.board.specs.Board.{area, wanted}
-use Rattle.board.proofs.Soundness.{Sound, Sides, sound-parts, sides-of, wanted-nine}
+use Rattle.board.specs.Board.{wanted}
+use Rattle.board.proofs.Soundness.{Sound, sound-parts, sides-of, wanted-nine}
 use Rattle.board.proofs.Board.check_readings.Statement.{statement}
 use Rattle.board.proofs.Board.check_readings.Tie as tie
 

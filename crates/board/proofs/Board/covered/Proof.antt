@@ -2,7 +2,7 @@
 use Rattle.board.specs.Covered.{coverageOf}
 use Rattle.checks.specs.Checks.{verdict}
 use borrow.Author.Needs.{needs}
-use mathlib.Core.Path.{_≡_, sym, _∙_}
+use mathlib.Core.Path.{sym, _∙_}
 use Rattle.board.proofs.Board.covered.Statement.{statement}
 use Rattle.board.proofs.Board.covered.Tie as tie
 

@@ -1,11 +1,11 @@
 -- `board::Board::feed` meets its contract.
-use mathlib.Core.Path.{_≡_, refl, sym, _∙_}
+use mathlib.Core.Path.{refl, sym, _∙_}
 use native.Mathlib.Omega.{arith}
 use borrow.Author.Needs.{needs}
 use denote.Ref.{now}
 use Rattle.board.specs.Ramp.{feedOf, fedSums}
 use Rattle.board.proofs.Soundness.{sound-parts, sides-of, wanted-nine}
-use Rattle.board.proofs.Checked.{FeedTaken, feed-taken, feedable}
+use Rattle.board.proofs.Checked.{feed-taken, feedable}
 use Rattle.board.proofs.Board.feed.Statement.{statement}
 use Rattle.board.proofs.Board.feed.Tie as tie
 

@@ -1,5 +1,5 @@
 -- `board::Board::read_out` meets its contract.
-use mathlib.Core.Path.{_≡_, refl, sym, _∙_}
+use mathlib.Core.Path.{refl, sym, _∙_}
 use borrow.Author.Needs.{needs}
 use denote.Ref.{now}
 use Rattle.board.specs.Ramp.{readOutOf, readOutWords}

@@ -1,8 +1,7 @@
 -- `board::Board::sound` meets its contract.
 use Rattle.board.specs.Board.{sound}
-use Rattle.laws.proofs.Tests.{and-assoc}
 use borrow.Author.Needs.{needs}
-use mathlib.Core.Path.{_≡_, sym, _∙_}
+use mathlib.Core.Path.{sym, _∙_}
 use Rattle.board.proofs.Board.sound.Statement.{statement}
 use Rattle.board.proofs.Board.sound.Tie as tie
 

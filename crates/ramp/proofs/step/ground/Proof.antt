@@ -1,5 +1,4 @@
 -- `ramp::step::ground` meets its contract.
-use mathlib.Core.Path.{_∙_}
 use mir.Facts.{toZ-ofZ}
 use Rattle.ramp.proofs.Steps.{ground-one, ground-not}
 use Rattle.ramp.proofs.step.ground.Statement.{statement}
