@@ -62,6 +62,12 @@ pub const READINGS_WANTED: u8 = 15;
 // An output that isn't one word for each pixel, or each square.
 pub const OUTPUT_LENGTH: u8 = 16;
 
+// Bytes that are no job of the jig.
+pub const INPUT: u8 = 17;
+
+// A job of more than 1,024 pixels.
+pub const TOO_MANY_PIXELS: u8 = 18;
+
 pub const UNSOUND_BOARD: u8 = 99;
 
 impl Found {

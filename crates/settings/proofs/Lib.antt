@@ -1,5 +1,6 @@
 -- Proofs of the settings: the laws that crates above cite, and those that the functions share.
 pub mod Fields
+pub mod Overlong
 pub mod Weights
 pub mod Parts
 pub mod Keeps

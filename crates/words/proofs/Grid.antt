@@ -1,24 +1,16 @@
--- The words of a frame, and the pixels of a word.
---     frame-length     how many words
+-- The pixels of a word.
 --     pixels-on        the pixels of a word lie on the board
 --     pixels-some      there is at least one
 use Prim.Native.Nat.{ℕ, _*_, _/_, _%_, _≤_, _<_}
 use mathlib.Core.Bool.{Bool, true, false}
-use mathlib.Core.List.{List}
 use mathlib.Core.Path.{_≡_, refl}
 use native.Mathlib.Nat.{mul-comm, div-lt-iff-lt-mul, mod-lt}
 use native.Mathlib.Omega.{arith}
 use lib.Arith.{digits-lt}
-use lib.IntN.{ℤ}
 use lib.ListN.{length}
-use Rattle.laws.proofs.Each.{each-length}
 use Rattle.laws.proofs.Parts.{All}
-use Rattle.words.specs.Frame.{pixelAt, pixelsOf, wordCount, wordAt, frameOf}
+use Rattle.words.specs.Frame.{pixelAt, pixelsOf, wordCount}
 use Rattle.words.proofs.Squares.{sides}
-
-pub frame-length : (width : ℕ) (binned : Bool) (r : ℕ) (sums : List ℤ) → length (frameOf width binned r sums) ≡ wordCount binned (length sums)
-unfolding frameOf
-frame-length width binned r sums = each-length (wordAt width binned r sums) (wordCount binned (length sums))
 
 -- a row and a column of the board
 on-board : (w h row col : ℕ) → row < h → col < w → pixelAt w row col < w * h

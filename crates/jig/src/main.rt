@@ -1,0 +1,123 @@
+// The jig: a job comes in on standard input, and its frame goes out as text, or the number of its refusal.
+ghost use Prim.Native.Nat.{_≤_};
+use checks::Answer;
+use job::Job;
+use libc::STDIN_FILENO;
+use libc::STDOUT_FILENO;
+use words::WordRead;
+use words::reading::read_word;
+
+fn text(bytes: &[u8]) {
+    io::write_all(STDOUT_FILENO, bytes);
+}
+
+fn number(n: u64) {
+    io::print_decimal(STDOUT_FILENO, n);
+}
+
+// n steps of 2^r, for r from 1 to 3.
+fn steps(n: u64, truncation: u16) -> u64
+    requires { ⌜ n ≤ 65536 ⌝ }
+{
+    if truncation == 1 {
+        n * 2
+    } else if truncation == 2 {
+        n * 4
+    } else {
+        n * 8
+    }
+}
+
+fn limits(word: u16, truncation: u16) {
+    let w = word as u64;
+    number(steps(w, truncation));
+    text(b"..");
+    number(steps(w + 1, truncation));
+}
+
+fn meaning(word: u16, truncation: u16) {
+    let read = read_word(word, truncation);
+    match read {
+        WordRead::Ordinary { low: _, high: _ } => limits(word, truncation),
+        WordRead::Saturated(sample) => {
+            text(b"sat ");
+            number(sample as u64);
+        }
+        WordRead::Negative => text(b"neg"),
+        WordRead::Unassigned => text(b"none"),
+        WordRead::Refused(_) => text(b"none"),
+    }
+}
+
+fn line(row: usize, column: usize, word: u16, truncation: u16) {
+    number(row as u64);
+    text(b" ");
+    number(column as u64);
+    text(b" ");
+    number(word as u64);
+    text(b" ");
+    meaning(word, truncation);
+    text(b"\n");
+}
+
+// The lines of a frame: the first `count` words, row by row.
+fn lines(words: &[u16], count: usize, columns: usize, truncation: u16) {
+    if columns == 0 {
+        return;
+    }
+    let mut i = 0;
+    while i < words.len() {
+        if i < count {
+            line(i / columns, i % columns, words[i], truncation);
+        }
+        i += 1;
+    }
+}
+
+// Reads and drops a part of the input, and answers how many bytes it had.
+fn dropped() -> usize
+    ensures { λ r. ⌜ r ≤ 4096 ⌝ }
+{
+    let mut part = io::buffer();
+    io::read_full(STDIN_FILENO, &mut part)
+}
+
+// How many bytes are left of the input.
+fn drained() -> usize
+    ensures { λ r. ⌜ r ≤ 17592186044416 ⌝ }
+{
+    let mut total: usize = 0;
+    let mut turns: u32 = 4294967295;
+    while turns > 0 {
+        let part = dropped();
+        if part == 0 {
+            return total;
+        }
+        total += part;
+        turns -= 1;
+    }
+    total
+}
+
+fn show(job: Job) {
+    let answer = job.answer;
+    match answer {
+        Answer::Taken => {
+            text(b"row col word meaning\n");
+            let words = job.words;
+            lines(&words, job.count, job.columns, job.truncation);
+        }
+        Answer::Refused(r) => {
+            text(b"refused ");
+            number(r.number as u64);
+            text(b"\n");
+        }
+    }
+}
+
+fn main() {
+    let mut input = [0u8; 18695];
+    let kept = io::read_full(STDIN_FILENO, &mut input);
+    let rest = drained();
+    show(job::run::run(&input[..kept], kept + rest));
+}

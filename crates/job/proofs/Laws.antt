@@ -1,0 +1,95 @@
+-- The laws of jobs.
+use Prim.Native.Nat.{ℕ, _+_, _-_, _*_, _≤_, _<_}
+use mathlib.Core.List.{List}
+use mathlib.Core.Path.{_≡_, refl, sym, _∙_}
+use borrow.Author.Tests.{ltb-true, ltb-false}
+use native.Mathlib.Omega.{arith}
+use lib.Dec.{ltb}
+use lib.ListN.{length, getD, take, drop, length-take, length-drop}
+use lib.Seq.{take-all, getD-take, take-take}
+use Rattle.laws.proofs.Tests.{cases}
+use Rattle.laws.proofs.Parts.{part-at}
+use Rattle.frame.specs.Chain.{frameAnswer, frameWords}
+use Rattle.job.specs.Input.{widthOf, heightOf, binnedByte, isBinned, recordLength, recordOf, readingsAt, pairs, maxReadings, capacity}
+use Rattle.job.specs.Job.{inputChecks, zeroSums, zeroWords, jobAnswer, jobWords}
+use Rattle.job.specs.Laws.{JobLaws}
+use Rattle.job.proofs.Pairs.{drop-take, pairs-take}
+use Rattle.job.proofs.Jobs.{Handed, handed, firstReadings, answer-is, words-are, overlong-is, overlong-none}
+
+-- the first readings lie in the first bytes
+within : (n m : ℕ) (l : List ℕ) → 2 * n ≤ m → take n (pairs (take m l)) ≡ take n (pairs l)
+within n m l h = sym (pairs-take n (take m l)) ∙ rw (take-take (2 * n) m l h) (pairs-take n l)
+
+-- the first n bytes, where n is large enough
+module _ (bytes : List ℕ) (total n : ℕ) (room : capacity ≤ n) where
+  at : (i : ℕ) → i < 8 → getD (take n bytes) i 0 ≡ getD bytes i 0
+  at i h = getD-take n bytes i 0 (omega arith)
+
+  width-is : widthOf (take n bytes) ≡ widthOf bytes
+  width-is = rw (at 0 (omega arith), at 1 (omega arith))
+
+  height-is : heightOf (take n bytes) ≡ heightOf bytes
+  height-is = rw (at 2 (omega arith), at 3 (omega arith))
+
+  flag-is : binnedByte (take n bytes) ≡ binnedByte bytes
+  flag-is = at 4 (omega arith)
+
+  size-is : recordLength (take n bytes) ≡ recordLength bytes
+  size-is = at 5 (omega arith)
+
+  same-checks : inputChecks (take n bytes) total ≡ inputChecks bytes total
+  same-checks = rw (width-is, height-is, flag-is, size-is)
+
+  abbrev Same : Type 0
+  Same = (jobAnswer (take n bytes) total ≡ jobAnswer bytes total) × (jobWords (take n bytes) total ≡ jobWords bytes total)
+
+  -- the length of the record is a byte: what matters lies in the first n
+  module _ (small : recordLength bytes ≤ 255) where
+    front : Handed bytes (widthOf (take n bytes)) (heightOf (take n bytes)) (isBinned (take n bytes)) (recordOf (take n bytes)) (firstReadings (take n bytes)) (zeroSums (take n bytes)) (zeroWords (take n bytes))
+    front = record {
+      width = width-is;
+      height = height-is;
+      flag-is = rw flag-is;
+      part-is = rw (size-is, drop-take 6 n bytes) (take-take (recordLength bytes) (n - 6) (drop 6 bytes) (omega arith));
+      readings-are = rw (size-is, drop-take (readingsAt bytes) n bytes) (within maxReadings (n - readingsAt bytes) (drop (readingsAt bytes) bytes) (omega arith));
+      sums-are = refl;
+      words-are = refl;
+    }
+
+    byte-record : Same
+    byte-record =
+        let e : jobAnswer (take n bytes) total ≡ jobAnswer bytes total = answer-is (take n bytes) total ∙ rw (same-checks, handed frameAnswer front) (sym (answer-is bytes total)) in
+        (e, words-are (take n bytes) total ∙ rw (e, handed frameWords front) (sym (words-are bytes total)))
+
+  -- any other record is refused
+  module _ (large : 255 < recordLength bytes) (more : n < length bytes) where
+    record-at : (i : ℕ) → i < 2 → getD (recordOf (take n bytes)) i 0 ≡ getD (recordOf bytes) i 0
+    record-at i h =
+        part-at (take n bytes) 6 (recordLength (take n bytes)) i 0 (rw size-is (omega arith))
+        ∙ at (6 + i) (omega arith)
+        ∙ sym (part-at bytes 6 (recordLength bytes) i 0 (omega arith))
+
+    long : 26 < length (recordOf bytes)
+    long = rw (length-take (recordLength bytes) (drop 6 bytes), length-drop 6 bytes) (omega arith)
+
+    long-front : 26 < length (recordOf (take n bytes))
+    long-front = rw (size-is, length-take (recordLength bytes) (drop 6 (take n bytes)), length-drop 6 (take n bytes), length-take n bytes) (omega arith)
+
+    long-record : Same
+    long-record = (
+      overlong-is (take n bytes) total long-front
+          ∙ rw (same-checks, record-at 0 (omega arith), record-at 1 (omega arith), width-is, height-is, flag-is) (sym (overlong-is bytes total long)),
+      overlong-none (take n bytes) total long-front ∙ sym (overlong-none bytes total long),
+    )
+
+  settled : Same
+  settled =
+      cases (ltb n (length bytes))
+      (λ m. cases (ltb 255 (recordLength bytes)) (λ e. long-record (ltb-true _ _ e) (ltb-true _ _ m)) (λ e. byte-record (ltb-false _ _ e)))
+      (λ m. rw (take-all n bytes (ltb-false _ _ m)) (refl, refl))
+
+pub laws : JobLaws
+laws = record {
+  prefix-answer = λ bytes. settled bytes (length bytes) capacity (omega arith) .0;
+  prefix-words = λ bytes. settled bytes (length bytes) capacity (omega arith) .1;
+}

@@ -1,0 +1,78 @@
+-- The parts of an input, and the laws of `pairs`.
+--     take-least, drop-least     a part that is cut where the list ends
+--     drop-take                  the end of a front
+--     record-part                the record
+--     pairs-take, pairs-at, pairs-length     a part, an element, how many
+--     bytes-length, readings-part            the first readings and their bytes
+use Prim.Native.Nat.{ℕ, zero, suc, _+_, _-_, _*_, _/_, _≤_, _<_, min}
+use mathlib.Core.List.{List, [], _∷_}
+use mathlib.Core.Path.{_≡_, refl, sym, ap, _∙_}
+use borrow.Author.Tests.{ltb-true, ltb-false}
+use native.Mathlib.Omega.{arith}
+use lib.Dec.{ltb}
+use lib.ListN.{length, getD, take, drop, length-take, length-drop, drop-of-length-le}
+use lib.Seq.{take-all, take-nil, take-take}
+use Rattle.laws.proofs.Tests.{cases}
+use Rattle.settings.specs.Record.{pairAt}
+use Rattle.job.specs.Input.{pairs, recordLength, recordOf, readingsAt, readingsOf, maxReadings}
+
+module _ {A : Type 0} where
+  take-least : (n m : ℕ) (l : List A) → n ≡ min m (length l) → take n l ≡ take m l
+  take-least n m l e =
+      cases (ltb m (length l))
+      (λ q. let h : n ≡ m = omega (arith, ltb-true m (length l) q) in rw h)
+      (λ q. let h : length l ≤ m = ltb-false _ _ q in take-all n l (omega arith) ∙ sym (take-all m l h))
+
+  drop-least : (n m : ℕ) (l : List A) → n ≡ min m (length l) → drop n l ≡ drop m l
+  drop-least n m l e =
+      cases (ltb m (length l))
+      (λ q. let h : n ≡ m = omega (arith, ltb-true m (length l) q) in rw h)
+      (λ q. let h : length l ≤ m = ltb-false _ _ q in drop-of-length-le l {i = n} (omega arith) ∙ sym (drop-of-length-le l h))
+
+  pub drop-take : (i n : ℕ) (l : List A) → drop i (take n l) ≡ take (n - i) (drop i l)
+  drop-take zero n l = let e : n - 0 ≡ n = omega arith in rw e
+  drop-take (suc i) zero l = let e : 0 - suc i ≡ 0 = omega arith in rw e
+  drop-take (suc i) (suc n) [] = sym (take-nil (suc n - suc i))
+  drop-take (suc i) (suc n) (x ∷ l) = let e : suc n - suc i ≡ n - i = omega arith in rw e (drop-take i n l)
+
+pub pairs-take : (n : ℕ) (l : List ℕ) → pairs (take (2 * n) l) ≡ take n (pairs l)
+unfolding pairs
+pairs-take zero l = refl
+pairs-take (suc n) l = let e : 2 * suc n ≡ suc (suc (2 * n)) = omega arith in rw e (by (pairs-take n) l)
+  where
+    by : ((l : List ℕ) → pairs (take (2 * n) l) ≡ take n (pairs l)) → (l : List ℕ) → pairs (take (suc (suc (2 * n))) l) ≡ take (suc n) (pairs l)
+    by more [] = refl
+    by more (x ∷ []) = refl
+    by more (x ∷ y ∷ l) = ap (λ (k : List ℕ). (x + 256 * y) ∷ k) (more l)
+
+pub pairs-length : (l : List ℕ) → length (pairs l) ≡ length l / 2
+unfolding pairs
+pairs-length [] = refl
+pairs-length (x ∷ []) = refl
+pairs-length (x ∷ y ∷ l) = omega (arith, pairs-length l)
+
+pub pairs-at : (l : List ℕ) (i : ℕ) → i < length (pairs l) → getD (pairs l) i 0 ≡ pairAt l (2 * i)
+unfolding pairs
+pairs-at [] i h = absurd (omega arith)
+pairs-at (x ∷ []) i h = absurd (omega arith)
+pairs-at (x ∷ y ∷ l) zero h = refl
+pairs-at (x ∷ y ∷ l) (suc i) h =
+    let e : 2 * suc i ≡ suc (suc (2 * i)) = omega arith in
+    let f : suc (suc (2 * i)) + 1 ≡ suc (suc (2 * i + 1)) = omega arith in
+    rw (e, f) (pairs-at l i (omega arith))
+
+-- from a place to a place, both cut where the list ends
+pub record-part : (l : List ℕ) (from start : ℕ) → from ≡ min 6 (length l) → start ≡ min (readingsAt l) (length l) → take (start - from) (drop from l) ≡ recordOf l
+record-part l from start e f =
+    rw (drop-least from 6 l e) (take-least (start - from) (recordLength l) (drop 6 l) (rw length-drop (omega arith)))
+
+-- the first bytes after the record, which hold the first readings
+module _ (l : List ℕ) (start fed : ℕ) (e : start ≡ min (readingsAt l) (length l)) (f : fed ≡ min ((length l - start) / 2) maxReadings) where
+  pub bytes-length : length (take (start + 2 * fed - start) (drop start l)) ≡ 2 * fed
+  bytes-length = rw (length-take, length-drop) (omega arith)
+
+  pub readings-part : take fed (pairs (take (start + 2 * fed - start) (drop start l))) ≡ take maxReadings (readingsOf l)
+  readings-part =
+      let d : start + 2 * fed - start ≡ 2 * fed = omega arith in
+      rw (d, drop-least start (readingsAt l) l e, pairs-take fed (drop (readingsAt l) l), take-take fed fed (readingsOf l) (omega arith))
+      (take-least fed maxReadings (readingsOf l) (rw (pairs-length, length-drop) (omega arith)))

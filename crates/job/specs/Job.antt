@@ -1,0 +1,75 @@
+-- What comes of a job.
+use Prim.Native.Nat.{ℕ, _+_, _*_, _/_, _%_}
+use mathlib.Core.Bool.{not, cond}
+use mathlib.Core.List.{List, [], _∷_, _++_}
+use mathlib.Core.Path.{_≡_}
+use lib.Dec.{ltb, eqb}
+use lib.IntN.{ℤ, pos}
+use lib.ListN.{length, take, replicate}
+use Rattle.checks.specs.declared.Answer.{Answer}
+use Rattle.checks.specs.Checks.{when, verdict, byAnswer}
+use Rattle.words.specs.Frame.{wordCount}
+use Rattle.board.specs.Board.{sidesTaken}
+use Rattle.frame.specs.Chain.{started, frameAnswer, frameWords}
+use Rattle.job.specs.declared.Job.{Job}
+use Rattle.job.specs.Input.{widthOf, heightOf, binnedByte, isBinned, recordOf, readingsAt, readingsOf, maxPixels}
+
+abbrev pub area : List ℕ → ℕ
+area bytes = widthOf bytes * heightOf bytes
+
+-- `total` is how many bytes the whole input has.
+-- 17: under six bytes; a binned byte above 1; a record that runs past the end; or an odd number of bytes after it, so that the total and the place after the
+-- record are one even, one odd. Then 1, as Open gives it. Then 18: more than 1,024 pixels
+abbrev pub inputChecks : List ℕ → ℕ → List Answer
+inputChecks bytes total =
+    when (ltb total 6) 17
+    ∷ when (ltb 1 (binnedByte bytes)) 17
+    ∷ when (ltb total (readingsAt bytes)) 17
+    ∷ when (eqb ((total + readingsAt bytes) % 2) 1) 17
+    ∷ when (not (sidesTaken (widthOf bytes) (heightOf bytes) (isBinned bytes))) 1
+    ∷ when (ltb maxPixels (area bytes)) 18
+    ∷ []
+
+-- the buffers of a job hold zeros
+abbrev pub zeroSums : List ℕ → List ℤ
+zeroSums bytes = replicate (area bytes) (pos 0)
+
+abbrev pub zeroWords : List ℕ → List ℕ
+zeroWords bytes = replicate (wordCount (isBinned bytes) (area bytes)) 0
+
+-- the answer: the checks of the input, then the chain of the frame
+unfoldable pub jobAnswer : List ℕ → ℕ → Answer
+jobAnswer bytes total =
+    verdict (
+    inputChecks bytes total
+    ++ frameAnswer (widthOf bytes) (heightOf bytes) (isBinned bytes) (recordOf bytes) (readingsOf bytes) (zeroSums bytes) (zeroWords bytes)
+    ∷ []
+    )
+
+-- the words of a taken job; none of a refused one
+unfoldable pub jobWords : List ℕ → ℕ → List ℕ
+jobWords bytes total =
+    byAnswer
+    (jobAnswer bytes total)
+    (frameWords (widthOf bytes) (heightOf bytes) (isBinned bytes) (recordOf bytes) (readingsOf bytes) (zeroSums bytes) (zeroWords bytes))
+    []
+
+-- how many words stand in a row of the frame
+abbrev pub columnsOf : List ℕ → ℕ
+columnsOf bytes = cond (isBinned bytes) (widthOf bytes / 2) (widthOf bytes)
+
+-- the r in force, by which the words are read
+abbrev pub truncationOf : List ℕ → ℕ
+truncationOf bytes = started (widthOf bytes) (heightOf bytes) (isBinned bytes) (recordOf bytes) .board .«in_force» .truncation
+
+-- what stands for a refused job
+abbrev pub refusedJob : Answer → Job
+refusedJob answer = record { answer = answer; count = 0; columns = 0; truncation = 0; words = replicate 1024 0 }
+
+-- a job's result: the answer; the words, of which there are `count`; and, of a taken job, the words in a row and the r in force
+pub record Result (bytes : List ℕ) (total : ℕ) (job : Job) : Type 0 where
+  pub answer : job .answer ≡ jobAnswer bytes total
+  pub words : take (job .count) (job .words) ≡ jobWords bytes total
+  pub count : job .count ≡ length (jobWords bytes total)
+  pub columns : job .columns ≡ byAnswer (jobAnswer bytes total) (columnsOf bytes) 0
+  pub truncation : job .truncation ≡ byAnswer (jobAnswer bytes total) (truncationOf bytes) 0
