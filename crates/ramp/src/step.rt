@@ -37,7 +37,7 @@ fn on_ground(entry: i32, reading: u16, weight: i32, threshold: u16, mark: i32) -
 }
 
 // The entry after a reading of sample n.
-pub fn stepped(entry: i32, reading: u16, n: usize, weight: i32, threshold: u16) -> i32
+pub(crate) fn stepped(entry: i32, reading: u16, n: usize, weight: i32, threshold: u16) -> i32
     requires { ⌜ (1 ≤ n) × (n ≤ 9) ⌝ }
     requires { ⌜ weightInRange weight ≡ true ⌝ }
     requires { ⌜ readingInRange reading ≡ true ⌝ }

@@ -11,7 +11,7 @@ use crate::Field;
 pub const FIELDS: usize = 12;
 
 // Whether bit i of n stands.
-pub fn stands(n: u16, i: usize) -> bool
+pub(crate) fn stands(n: u16, i: usize) -> bool
     requires { ⌜ i < 16 ⌝ }
     ensures { λ r. ⌜ r ≡ Def.stands n i ⌝ }
 {
@@ -73,7 +73,7 @@ fn next_place(map: u16, bit: usize, at: usize) -> usize
 }
 
 // Where the field of a bit starts.
-pub fn place_of(map: u16, bit: usize) -> usize
+pub(crate) fn place_of(map: u16, bit: usize) -> usize
     requires { ⌜ bit < 16 ⌝ }
     ensures { λ r. ⌜ r ≡ placeOf map bit ⌝ }
 {
@@ -100,7 +100,7 @@ fn number_at(field: Field, bytes: &[u8], at: usize) -> u16
 }
 
 // The number that the record has for the field of a bit.
-pub fn number_of(bytes: &[u8], bit: usize) -> u16
+pub(crate) fn number_of(bytes: &[u8], bit: usize) -> u16
     requires { ⌜ bit < 16 ⌝ }
     ensures { λ r. ⌜ r ≡ numberOf (now (bytes .entry)) bit ⌝ }
 {

@@ -61,7 +61,7 @@ fn flagged(marked: bool, sample: i32, word: u32) -> u16
 }
 
 // The word of a pixel.
-pub fn pixel_word(entry: i32, truncation: u16) -> u16
+pub(crate) fn pixel_word(entry: i32, truncation: u16) -> u16
     requires { ⌜ readable entry ≡ true ⌝ }
     requires { ⌜ truncationInRange truncation ≡ true ⌝ }
     ensures { λ r. ⌜ r ≡ wordOf truncation (entry ∷ []) ⌝ }
@@ -70,7 +70,7 @@ pub fn pixel_word(entry: i32, truncation: u16) -> u16
 }
 
 // The word of a square.
-pub fn square_word(a: i32, b: i32, c: i32, d: i32, truncation: u16) -> u16
+pub(crate) fn square_word(a: i32, b: i32, c: i32, d: i32, truncation: u16) -> u16
     requires { ⌜ (readable a ≡ true) × (readable b ≡ true) ⌝ }
     requires { ⌜ (readable c ≡ true) × (readable d ≡ true) ⌝ }
     requires { ⌜ truncationInRange truncation ≡ true ⌝ }
