@@ -1,9 +1,7 @@
-"""Jig inputs and the outputs they must give: make_jig.py SEED COUNT DIR."""
+"""Jig inputs and the outputs they must give."""
 
 from __future__ import annotations
 
-import sys
-from pathlib import Path
 from typing import Callable, Optional
 
 import jig
@@ -17,6 +15,9 @@ from draws import (
     encode_record,
 )
 from ramp import Settings, updated
+
+# Two pixels, one sample of weight 1, the readings 0 and 16,383.
+EXAMPLE = bytes.fromhex("02 00 01 00 00 04 01 08 01 01 00 00 FF 3F")
 
 THIN = ((1, 1024), (1024, 1), (512, 2), (2, 512), (32, 32), (32, 32))
 
@@ -205,16 +206,3 @@ def make(seed: int, count: int) -> list[tuple[bytes, str]]:
     draws = Draws(seed)
     inputs = [KINDS[index % len(KINDS)][1](draws) for index in range(count)]
     return [(data, jig.run(data)) for data in inputs]
-
-
-def main() -> None:
-    """Write 1.in, 1.out, 2.in, .. into the folder."""
-    seed, count, folder = int(sys.argv[1]), int(sys.argv[2]), Path(sys.argv[3])
-    folder.mkdir(parents=True, exist_ok=True)
-    for number, (data, text) in enumerate(make(seed, count), 1):
-        (folder / f"{number}.in").write_bytes(data)
-        (folder / f"{number}.out").write_bytes(text.encode("ascii"))
-
-
-if __name__ == "__main__":
-    main()

@@ -1,9 +1,7 @@
-"""Replay scripts and the outputs they must give: make_replay.py SEED COUNT DIR."""
+"""Replay scripts and the outputs they must give."""
 
 from __future__ import annotations
 
-import sys
-from pathlib import Path
 from typing import Callable
 
 import replay
@@ -492,14 +490,20 @@ def make(seed: int, count: int) -> list[tuple[bytes, str]]:
     return made
 
 
-def main() -> None:
-    """Write 1.in, 1.out, 2.in, .. into the folder."""
-    seed, count, folder = int(sys.argv[1]), int(sys.argv[2]), Path(sys.argv[3])
-    folder.mkdir(parents=True, exist_ok=True)
-    for number, (script, text) in enumerate(make(seed, count), 1):
-        (folder / f"{number}.in").write_bytes(script)
-        (folder / f"{number}.out").write_bytes(text.encode("ascii"))
+def sized_board(writer: Writer, width: int, height: int, binned: int) -> None:
+    """A board of these sides with a ramp of two samples."""
+    writer.open(width, height, binned)
+    writer.say("update", *encode_record({11: 2}))
+    writer.ramp(20)
 
 
-if __name__ == "__main__":
-    main()
+def tour(seed: int) -> bytes:
+    """One long script with every scene, and boards from the smallest to the largest."""
+    writer = Writer(Draws(seed))
+    for scene in (before_open, many_words, middle_board, large_board):
+        scene(writer)
+    for _ in range(8):
+        small_board(writer)
+    for sides in ((1, 1, 0), (2, 2, 1), (64, 48, 0), (64, 48, 1), (64, 64, 1)):
+        sized_board(writer, *sides)
+    return writer.bytes()

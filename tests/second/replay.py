@@ -12,7 +12,7 @@ from typing import Optional, Union
 from jig import meaning
 from ramp import Board, Refusal, Settings, open_board
 
-MAX_SCRIPT = 1_048_576
+MAX_SCRIPT = 262_144
 MAX_COUNT = 4_096
 PER_LINE = 10
 
@@ -47,8 +47,7 @@ Command = tuple[str, list[int]]
 
 def parse_number(text: str, limits: Range) -> Optional[int]:
     """A number of one to ten digits within the limits, or None."""
-    pattern = "-?[0-9]{1,10}" if limits[0] < 0 else "[0-9]{1,10}"
-    if re.fullmatch(pattern, text) is None:
+    if re.fullmatch("-?[0-9]{1,10}", text) is None:
         return None
     return int(text) if limits[0] <= int(text) <= limits[1] else None
 

@@ -31,7 +31,6 @@ from ramp import (
 )
 
 HERE = Path(__file__).resolve().parent
-JIG_EXAMPLE = bytes.fromhex("02 00 01 00 00 04 01 08 01 01 00 00 FF 3F")
 JIG_EXAMPLE_OUTPUT = (
     "row col word meaning\n0 0 32 128..132\n0 1 4127 16508..16512\n"
 )
@@ -334,10 +333,10 @@ class Jig(unittest.TestCase):
     """The jig and its made inputs."""
 
     def test_example(self) -> None:
-        self.assertEqual(jig.run(JIG_EXAMPLE), JIG_EXAMPLE_OUTPUT)
+        self.assertEqual(jig.run(make_jig.EXAMPLE), JIG_EXAMPLE_OUTPUT)
         done = subprocess.run(
             [sys.executable, str(HERE / "jig.py")],
-            input=JIG_EXAMPLE,
+            input=make_jig.EXAMPLE,
             capture_output=True,
             check=True,
         )
@@ -376,14 +375,21 @@ class Replay(unittest.TestCase):
         for _ in range(300):
             script = make_replay.spoil(draws, b"open 2 2 0\nstart\nfeed 2 1 2\n")
             self.assertRegex(replay.run(script), r"\Amalformed line [123]\n\Z")
-        self.assertEqual(replay.run(b"#" * 1_048_577), "script too long\n")
-        self.assertEqual(replay.run(b"#" * 1_048_576), "")
+        self.assertEqual(replay.run(b"#" * 262_145), "script too long\n")
+        self.assertEqual(replay.run(b"#" * 262_144), "")
         self.assertEqual(replay.run(b"\n\n# \xff\n\nfoo"), "malformed line 5\n")
 
     def test_made_scripts_reach_every_refusal(self) -> None:
+        self.check_refusals([script for script, _ in make_replay.make(18, 64)])
+
+    def test_the_tour_reaches_every_refusal(self) -> None:
+        self.check_refusals([make_replay.tour(1)])
+
+    def check_refusals(self, scripts: list[bytes]) -> None:
+        """Every number is answered, and 14 at an entry of each kind."""
         seen: set[int] = set()
         intervals: set[str] = set()
-        for script, _ in make_replay.make(18, 64):
+        for script in scripts:
             commands = replay.parse_script(script)
             if isinstance(commands, str):
                 continue

@@ -3,51 +3,10 @@ ghost use Prim.Native.Nat.{_≤_};
 use checks::Answer;
 use job::Job;
 use libc::STDIN_FILENO;
-use libc::STDOUT_FILENO;
-use words::WordRead;
+use print::meaning;
+use print::number;
+use print::text;
 use words::reading::read_word;
-
-fn text(bytes: &[u8]) {
-    io::write_all(STDOUT_FILENO, bytes);
-}
-
-fn number(n: u64) {
-    io::print_decimal(STDOUT_FILENO, n);
-}
-
-// n steps of 2^r, for r from 1 to 3.
-fn steps(n: u64, truncation: u16) -> u64
-    requires { ⌜ n ≤ 65536 ⌝ }
-{
-    if truncation == 1 {
-        n * 2
-    } else if truncation == 2 {
-        n * 4
-    } else {
-        n * 8
-    }
-}
-
-fn limits(word: u16, truncation: u16) {
-    let w = word as u64;
-    number(steps(w, truncation));
-    text(b"..");
-    number(steps(w + 1, truncation));
-}
-
-fn meaning(word: u16, truncation: u16) {
-    let read = read_word(word, truncation);
-    match read {
-        WordRead::Ordinary { low: _, high: _ } => limits(word, truncation),
-        WordRead::Saturated(sample) => {
-            text(b"sat ");
-            number(sample as u64);
-        }
-        WordRead::Negative => text(b"neg"),
-        WordRead::Unassigned => text(b"none"),
-        WordRead::Refused(_) => text(b"none"),
-    }
-}
 
 fn line(row: usize, column: usize, word: u16, truncation: u16) {
     number(row as u64);
@@ -56,7 +15,7 @@ fn line(row: usize, column: usize, word: u16, truncation: u16) {
     text(b" ");
     number(word as u64);
     text(b" ");
-    meaning(word, truncation);
+    meaning(read_word(word, truncation));
     text(b"\n");
 }
 

@@ -4,7 +4,7 @@
 --     scaled                                      the bound of a product
 --     le-true .. lt-false                         what a test of order says; is-le, not-le the test's value from the fact
 --     signed                                      `omega`'s list with the tests of order: `omega signed`, `omega (signed, sum a b)`
---     fits, fitted                                from a range to `SFits`, and back
+--     fits, fitted, whole                         from a range to `SFits`, and back; a number that isn't negative
 --     back, toZ-nat                               a number as the machine holds it
 --     same                                        equal differences, equal integers
 use mathlib.Core.Path.{_≡_, refl, sym, ap, _∙_}
@@ -13,10 +13,10 @@ use Prim.Native.Nat.{ℕ, zero, suc, _+_, _-_, _*_, _<_, _≤_, _^_, zero-le}
 use native.Mathlib.Omega.{arith}
 use native.Mathlib.Nat.{zero-mul, mul-le-mul}
 use lib.Dec.{T, ltb}
-use lib.IntN.{ℤ, pos, negsuc, negℤ, subℕ, _+ℤ_, _*ℤ_}
-use lib.Signed.{mag, ltZ, leZ}
+use lib.IntN.{ℤ, pos, negsuc, negℤ, natAbs, subℕ, _+ℤ_, _*ℤ_}
+use lib.Signed.{mag, nonNeg, ltZ, leZ}
 use mir.Syntax.{Width}
-use mir.Val.{SFits, hbits, toZ, ofZ}
+use mir.Val.{Fits, SFits, bits, hbits, toZ, ofZ}
 use mir.Facts.{toZ-ofZ}
 use Rattle.laws.proofs.Tests.{clash, is-true}
 use borrow.Author.Tests.{ltb-true, ltb-false, leb-true, leb-false, le-leb, lt-leb}
@@ -120,6 +120,11 @@ fits w (negsuc n) h = record { sfits = omega arith }
 pub fitted : (w : Width) (z : ℤ) → SFits w z → (up z < 2 ^ hbits w) × (dn z ≤ 2 ^ hbits w)
 fitted w (pos n) h = omega arith
 fitted w (negsuc n) h = omega arith
+
+-- a number that isn't negative, for a cast to an unsigned type
+pub whole : (w : Width) (z : ℤ) → (dn z ≤ up z) × (up z < dn z + 2 ^ bits w) → T (nonNeg z) × Fits w (natAbs z)
+whole w (pos n) h = (tt, record { fits = omega arith })
+whole w (negsuc n) h = absurd (omega arith)
 
 -- what a read of an element (`.given`) and a call's result (`.ok`) give, as the equation that is wanted of it
 pub back : (w : Width) (z : ℤ) → mag z < 2 ^ hbits w → toZ w (ofZ w z) ≡ z

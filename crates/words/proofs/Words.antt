@@ -1,6 +1,6 @@
 -- A word, from a sample or a total.
 --     in-range                   an r in range is 1 to 3
---     whole, kept                a number that is cast and masked
+--     kept                       a sample is left as it is by the mask
 --     cutWord, cut-lt            the word of a total
 --     pixel, square              what the code computes is the word
 use Prim.Native.Nat.{ℕ, _+_, _-_, _*_, _/_, _%_, _^_, _≤_, _<_, max}
@@ -12,15 +12,13 @@ use native.Mathlib.Nat.{mod-eq-of-lt, one-mul, mul-comm, max-zero}
 use native.Mathlib.Omega.{arith}
 use borrow.Author.Tests.{leb-true, lt-ltb}
 use lib.Bits.{bitAnd, and-mask}
-use lib.Dec.{T, leb, ltb}
+use lib.Dec.{leb, ltb}
 use lib.IntN.{ℤ, pos, negsuc, _+ℤ_, _-ℤ_, natAbs, +ℤ-idr, +ℤ-assoc}
 use lib.ListN.{length}
 use lib.Pow.{pow-add}
-use lib.Signed.{ltZ, nonNeg, _≤ℤ_}
-use mir.Syntax.{w32}
-use mir.Val.{Fits}
+use lib.Signed.{ltZ, _≤ℤ_}
 use Rattle.laws.specs.Lists.{total}
-use Rattle.laws.proofs.Ints.{up, dn, signed}
+use Rattle.laws.proofs.Ints.{signed}
 use Rattle.laws.proofs.Numbers.{max-assoc, less}
 use Rattle.laws.proofs.Parts.{All}
 use Rattle.laws.proofs.Tests.{and-true}
@@ -32,11 +30,6 @@ use Rattle.words.proofs.Entries.{ahead, ahead-smaller, Few, few, few-sm
 
 pub in-range : (r : ℕ) → truncationInRange r ≡ true → (1 ≤ r) × (r ≤ 3)
 in-range r e = let t = and-true (leb 1 r) (leb r 3) e in (leb-true 1 r (t .0), leb-true r 3 (t .1))
-
--- a number that isn't negative
-pub whole : (z : ℤ) → (dn z ≤ up z) × (up z < dn z + 4294967296) → T (nonNeg z) × Fits w32 (natAbs z)
-whole (pos n) h = (tt, record { fits = omega arith })
-whole (negsuc n) h = absurd (omega arith)
 
 -- a sample
 pub kept : (z : ℤ) → (pos 0 ≤ℤ z) × (z ≤ℤ pos 9) → (bitAnd (natAbs z) 15 ≡ natAbs z) × (natAbs z ≤ 9)

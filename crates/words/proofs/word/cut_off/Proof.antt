@@ -3,8 +3,7 @@ use borrow.Author.Needs.{needs}
 use lib.Bits.{and-mask}
 use mir.Syntax.{w32}
 use mir.Facts.{toZ-ofZ}
-use Rattle.laws.proofs.Ints.{fitted, signed}
-use Rattle.words.proofs.Words.{whole}
+use Rattle.laws.proofs.Ints.{fitted, signed, whole}
 use Rattle.words.proofs.word.cut_off.Statement.{statement}
 use Rattle.words.proofs.word.cut_off.Tie as tie
 
@@ -12,7 +11,7 @@ cast-result : tie.Need-cast-result
 cast-result c =
     let s = c .before in
     let t = simp (toZ-ofZ, s .fits .total) at (c .if1 .left) in
-    simp (toZ-ofZ, s .fits .total) (whole (s .args .total) (omega (signed, fitted w32 (s .args .total) (s .fits .total))))
+    simp (toZ-ofZ, s .fits .total) (whole w32 (s .args .total) (omega (signed, fitted w32 (s .args .total) (s .fits .total))))
 
 returns : tie.Need-returns
 returns c = simp (simp (toZ-ofZ, c .before .fits .total) at (c .if1 .taken))

@@ -1,9 +1,10 @@
 -- `words::word::flagged` meets its contract.
 use mathlib.Core.Logic.{⊎-elim}
 use native.Mathlib.Omega.{arith}
+use mir.Syntax.{w32}
 use mir.Facts.{toZ-ofZ}
-use Rattle.laws.proofs.Ints.{signed}
-use Rattle.words.proofs.Words.{whole, kept}
+use Rattle.laws.proofs.Ints.{signed, whole}
+use Rattle.words.proofs.Words.{kept}
 use Rattle.words.proofs.word.flagged.Statement.{statement}
 use Rattle.words.proofs.word.flagged.Tie as tie
 
@@ -11,7 +12,7 @@ cast-shown : tie.Need-cast-shown
 cast-shown c =
     let s = c .before in
     let h = s .pre .0 (c .if1 .taken) in
-    simp (toZ-ofZ, s .fits .sample) (whole (s .args .sample) (omega signed))
+    simp (toZ-ofZ, s .fits .sample) (whole w32 (s .args .sample) (omega signed))
 
 add-shown : tie.Need-add-shown
 add-shown c =

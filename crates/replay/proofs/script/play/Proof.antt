@@ -1,0 +1,35 @@
+-- `replay::script::play` is safe and ends.
+use Prim.Native.Nat.{_-_}
+use mathlib.Core.Path.{_≡_}
+use native.Mathlib.Omega.{arith}
+use lib.ListN.{length}
+use Rattle.replay.proofs.script.play.Statement.{statement}
+use Rattle.replay.proofs.script.play.Tie as tie
+
+abbrev Inv-loop : tie.InvT-loop
+Inv-loop script list₀ sums₀ spare₀ stage₀ at₀ list sums spare stage at = (length list ≡ length list₀) × (length sums ≡ length sums₀) × (length spare ≡ length spare₀)
+
+abbrev μ-loop : tie.MeasureT-loop
+μ-loop script list₀ sums₀ spare₀ stage₀ at₀ list sums spare stage at = length script - at
+
+pub play-spec : {M : Type 1} → statement M
+play-spec =
+    tie.close
+    (tie.spec
+    Inv-loop
+    μ-loop
+    (λ c κs. omega arith)
+    (λ c. omega arith)
+    (λ c κs. omega arith)
+    (λ c. omega arith)
+    (λ c. omega arith)
+    (λ c. omega arith)
+    (λ c κs. omega arith)
+    (λ c κs. omega arith)
+    (λ c. omega arith)
+    (λ c. omega arith)
+    (λ c. omega arith)
+    (λ c. omega arith)
+    (λ c. omega arith)
+    (λ c. omega arith)
+    (λ c. omega arith))
