@@ -24,8 +24,8 @@ pub(crate) enum Command {
 // The most entries of the sums, readings of a feed, bytes of a record and words of an output.
 const MOST: i64 = 4096;
 
-// The command of a word.
-pub(crate) fn named(word: &[u8]) -> Command {
+// The commands that are a board's own.
+fn operation(word: &[u8]) -> Command {
     if same(word, b"open") {
         Command::Open
     } else if same(word, b"update") {
@@ -34,14 +34,21 @@ pub(crate) fn named(word: &[u8]) -> Command {
         Command::Start
     } else if same(word, b"feed") {
         Command::Feed
-    } else if same(word, b"fill") {
-        Command::Fill
     } else if same(word, b"readout") {
         Command::ReadOut
     } else if same(word, b"drop") {
         Command::Drop
     } else if same(word, b"covered") {
         Command::Covered
+    } else {
+        Command::Malformed
+    }
+}
+
+// The others.
+fn other(word: &[u8]) -> Command {
+    if same(word, b"fill") {
+        Command::Fill
     } else if same(word, b"word") {
         Command::Word
     } else if same(word, b"sums") {
@@ -54,6 +61,15 @@ pub(crate) fn named(word: &[u8]) -> Command {
         Command::PrintSums
     } else {
         Command::Malformed
+    }
+}
+
+// The command of a word.
+pub(crate) fn named(word: &[u8]) -> Command {
+    let found = operation(word);
+    match found {
+        Command::Malformed => other(word),
+        _ => found,
     }
 }
 
