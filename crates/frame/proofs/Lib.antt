@@ -1,3 +1,4 @@
 -- What a frame's checks come to.
 pub mod Whole
 pub mod Enough
+pub mod Stepping

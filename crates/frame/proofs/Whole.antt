@@ -1,6 +1,7 @@
 -- A ramp that is fed at once.
 --     started-unfed     a board that was opened, updated and started, or refused on the way, has nothing fed
 --     then-read-out     after a taken Feed only 15 and 16 of Read out can refuse
+--     frame-feedable, frame-readable, sums-are, words-are     where neither refuses, what the passes need and what they leave
 use Prim.Native.Nat.{ℕ, _+_, _*_, _≤_, _<_}
 use mathlib.Core.Bool.{Bool, true, not}
 use mathlib.Core.List.{List, []}
@@ -15,24 +16,24 @@ use Rattle.laws.proofs.Tests.{cases}
 use Rattle.checks.specs.declared.Answer.{Answer}
 use Rattle.checks.specs.declared.Answer.the-variants.{Taken, Refused}
 use Rattle.checks.specs.Checks.{when, first, verdict, byAnswer}
-use Rattle.checks.proofs.Laws.{first-taken, verdict-append}
+use Rattle.checks.proofs.Laws.{first-taken, verdict-append, both-taken}
 use Rattle.checks.proofs.Search.{found-every}
 use Rattle.entries.specs.Possible.{possible}
 use Rattle.ramp.specs.Step.{step}
-use Rattle.ramp.specs.Feed.{feedAll}
+use Rattle.ramp.specs.Feed.{feedAll, Feedable}
 use Rattle.ramp.proofs.Feeding.{feed-length}
 use Rattle.ramp.proofs.Agrees.{agrees-none, agrees-all}
 use Rattle.ramp.proofs.Honest.{all-possible}
-use Rattle.words.specs.Frame.{wordCount}
+use Rattle.words.specs.Frame.{wordCount, frameOf, Readable}
 use Rattle.board.specs.declared.Board.{Board}
 use Rattle.board.specs.Board.{area, wanted, extended}
 use Rattle.board.specs.Open.{openOf}
 use Rattle.board.specs.Update.{updateOf}
-use Rattle.board.specs.Ramp.{startOf, rampChecks, feedChecks, feedOf, fedSums, readOutChecks, readOutOf}
+use Rattle.board.specs.Ramp.{startOf, rampChecks, feedChecks, feedOf, fedSums, readOutChecks, readOutOf, readOutWords}
 use Rattle.board.proofs.Soundness.{sound-parts, sides-of, wanted-nine}
-use Rattle.board.proofs.Checked.{FeedTaken, feed-taken, ramp-passes}
+use Rattle.board.proofs.Checked.{FeedTaken, feed-taken, feedable, read-out-taken, readable-frame, ramp-passes}
 use Rattle.board.proofs.Laws as BoardLaws
-use Rattle.frame.specs.Chain.{started, readOut}
+use Rattle.frame.specs.Chain.{started, fed, readOut}
 
 unfed : (a : Answer) (new old : Board) → new .fed ≡ 0 → old .fed ≡ 0 → byAnswer a new old .fed ≡ 0
 unfed Taken new old p q = p
@@ -92,3 +93,30 @@ module _ (b : Board) (none : b .fed ≡ 0) (xs : List ℕ) (sums : List ℤ) (ta
       (cases (ltb (length xs) (wanted b))
       (λ e. rw e)
       (λ e. rw (e, found-every (possible (b .«in_force» .samples)) left (pos 0) (entries-possible (ltb-false _ _ e))) (first-taken _)))
+
+module _ (b : Board) (xs : List ℕ) (sums : List ℤ) (output : List ℕ) (taken : first (fed b xs sums .answer) (readOut b xs sums output .answer) ≡ Taken) where
+  feed-passed : verdict (feedChecks b xs sums) ≡ Taken
+  unfolding feedOf
+  feed-passed = both-taken (fed b xs sums .answer) _ taken .0
+
+  -- the sums that Feed leaves
+  abbrev summed : List ℤ
+  summed = feedAll (pos 0) (step (b .«in_force»)) (length sums) (b .fed) xs sums
+
+  pub frame-feedable : Feedable (b .«in_force») (b .fed) xs sums
+  frame-feedable = feedable b xs sums (feed-taken b xs sums feed-passed)
+
+  pub sums-are : fedSums b xs sums ≡ summed
+  unfolding fedSums
+  sums-are = rw feed-passed
+
+  read-out-passed : verdict (readOutChecks (extended (length xs) b) summed output) ≡ Taken
+  unfolding feedOf fedSums readOutOf
+  read-out-passed = rw feed-passed at (both-taken (fed b xs sums .answer) _ taken .1)
+
+  pub frame-readable : Readable (b .width) (b .height) (b .binned) (b .«in_force» .truncation) summed output
+  frame-readable = readable-frame (extended (length xs) b) summed output (read-out-taken (extended (length xs) b) summed output read-out-passed)
+
+  pub words-are : readOutWords (fed b xs sums .board) (fedSums b xs sums) output ≡ frameOf (b .width) (b .binned) (b .«in_force» .truncation) summed
+  unfolding feedOf fedSums readOutWords
+  words-are = rw (feed-passed, read-out-passed)

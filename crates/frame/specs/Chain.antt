@@ -5,7 +5,6 @@ use mathlib.Core.Bool.{Bool}
 use mathlib.Core.List.{List, [], _∷_}
 use lib.IntN.{ℤ}
 use Rattle.checks.specs.declared.Answer.{Answer}
-use Rattle.checks.specs.declared.Answer.the-variants.{Taken, Refused}
 use Rattle.checks.specs.Checks.{verdict, byAnswer}
 use Rattle.board.specs.declared.Board.{Board}
 use Rattle.board.specs.declared.Outcome.{Outcome}
@@ -18,6 +17,13 @@ updated width height binned bytes = updateOf (openOf width height binned .board)
 
 abbrev pub started : ℕ → ℕ → Bool → List ℕ → Outcome
 started width height binned bytes = startOf (updated width height binned bytes .board)
+
+-- the first refusal of the three; taken if none refuses. And the board that they leave
+abbrev pub begun : ℕ → ℕ → Bool → List ℕ → Outcome
+begun width height binned bytes = record {
+  answer = verdict (openOf width height binned .answer ∷ updated width height binned bytes .answer ∷ started width height binned bytes .answer ∷ []);
+  board = started width height binned bytes .board;
+}
 
 -- on a board that was started
 abbrev pub fed : Board → List ℕ → List ℤ → Outcome
@@ -51,12 +57,3 @@ frameWords width height binned bytes readings sums output =
     (frameAnswer width height binned bytes readings sums output)
     (readOutWords (fed b readings sums .board) (fedSums b readings sums) output)
     output
-
--- an answer as plain numbers: 0 for taken
-abbrev pub numberOf : Answer → ℕ
-numberOf Taken = 0
-numberOf (Refused r) = r .number
-
-abbrev pub placeOf : Answer → ℕ
-placeOf Taken = 0
-placeOf (Refused r) = r .place

@@ -1,2 +1,4 @@
--- The whole chain of a frame: open, update, start, feed, read out.
+-- The whole chain of a frame, and single steps of it.
+pub mod Told
 pub mod Chain
+pub mod Steps

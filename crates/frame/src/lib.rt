@@ -1,9 +1,18 @@
 // A whole frame in one call, for programs in Rattle, C and Rust.
 ghost use mathlib.Core.Path.{_≡_};
 ghost use Rattle.checks.specs.Checks.{first};
-ghost use Rattle.frame.specs.Chain.{fed, readOut, frameAnswer, frameSums, frameWords, numberOf, placeOf};
+ghost use Rattle.frame.specs.Chain.{fed, readOut, frameAnswer, frameSums, frameWords};
+ghost use Rattle.frame.specs.Told.{numberOf, placeOf};
+use crate::begin::begin;
+use crate::told::told;
 use board::Board;
 use checks::Answer;
+use ramp::pass::feed;
+use words::frame::write_frame;
+
+mod begin;
+pub mod steps;
+mod told;
 
 // The checks of Feed and of a Read out after it, on a ramp with nothing fed. Read out's 14 would find nothing: what Feed leaves is possible.
 fn check(b: Board, readings: &[u16], sums: &[i32], words: &[u16]) -> Answer
@@ -20,7 +29,7 @@ fn check(b: Board, readings: &[u16], sums: &[i32], words: &[u16]) -> Answer
     }
 }
 
-// Open, update, start, feed and read out. Nothing is written unless all five are taken.
+// Open, update, start, feed and read out. Every check comes first, and once: nothing is written unless all five are taken.
 pub fn frame_of(
     width: usize,
     height: usize,
@@ -34,22 +43,16 @@ pub fn frame_of(
     ensures sums { λ r. ⌜ now (sums .exit) ≡ frameSums width height binned (now («record» .entry)) (now (readings .entry)) (now (sums .entry)) (now (words .entry)) ⌝ }
     ensures words { λ r. ⌜ now (words .exit) ≡ frameWords width height binned (now («record» .entry)) (now (readings .entry)) (now (sums .entry)) (now (words .entry)) ⌝ }
 {
-    let opened = Board::open(width, height, binned);
-    let open_answer = opened.answer;
-    let open_board = opened.board;
-    let updated = open_board.update(record);
-    let update_answer = updated.answer;
-    let update_board = updated.board;
-    let started = update_board.start();
-    let start_answer = started.answer;
-    let b = started.board;
-    let rest = check(b, readings, sums, words);
-    let answer = open_answer.then(update_answer.then(start_answer.then(rest)));
+    let begun = begin(width, height, binned, record);
+    let begin_answer = begun.answer;
+    let b = begun.board;
+    let answer = begin_answer.then(check(b, readings, sums, words));
     match answer {
         Answer::Taken => {
-            let fed = b.feed(readings, sums);
-            let fed_board = fed.board;
-            fed_board.read_out(sums, words);
+            let settings = b.in_force;
+            let truncation = settings.truncation;
+            feed(readings, sums, b.fed, settings);
+            write_frame(sums, words, b.width, b.height, b.binned, truncation);
             answer
         }
         Answer::Refused(_) => answer,
@@ -73,15 +76,8 @@ pub extern "C" fn ramp_frame(
     ensures sums { λ r. ⌜ now (sums .exit) ≡ frameSums width height binned (now («record» .entry)) (now (readings .entry)) (now (sums .entry)) (now (words .entry)) ⌝ }
     ensures words { λ r. ⌜ now (words .exit) ≡ frameWords width height binned (now («record» .entry)) (now (readings .entry)) (now (sums .entry)) (now (words .entry)) ⌝ }
 {
-    let answer = frame_of(width, height, binned, record, readings, sums, words);
-    match answer {
-        Answer::Taken => {
-            *place = 0;
-            0
-        }
-        Answer::Refused(r) => {
-            *place = r.place;
-            r.number
-        }
-    }
+    told(
+        frame_of(width, height, binned, record, readings, sums, words),
+        place,
+    )
 }

@@ -2,44 +2,48 @@
 use mathlib.Core.Path.{_≡_, refl, sym, _∙_}
 use borrow.Author.Needs.{needs}
 use denote.Ref.{now}
-use Rattle.checks.specs.Checks.{verdict}
-use Rattle.checks.proofs.Laws.{first-taken}
-use Rattle.frame.specs.Chain.{started, frameAnswer, frameSums, frameWords}
-use Rattle.frame.proofs.Whole.{started-unfed}
+use Rattle.checks.specs.declared.Answer.the-variants.{Taken}
+use Rattle.checks.specs.Checks.{first}
+use Rattle.checks.proofs.Laws.{both-taken}
+use Rattle.frame.specs.Chain.{fed, readOut, frameAnswer, frameSums, frameWords}
+use Rattle.frame.proofs.Whole.{started-unfed, frame-feedable, frame-readable, sums-are, words-are}
+use Rattle.frame.proofs.Stepping.{frame-is}
 use Rattle.frame.proofs.frame_of.Statement.{statement}
 use Rattle.frame.proofs.frame_of.Tie as tie
 
--- the board that Start leaves
-started-is : (c : tie.After-start) → let a = c .before .before .before .before .before .before .before .before .args in c .start .result ≡ started (a .width) (a .height) (a .binned) (now (a .«record»))
-started-is c = rw (c .start .ensures, c .before .before .update .ensures, c .before .before .before .before .«open» .ensures)
-
 -- the answer of the five
-answer-is : (c : tie.After-then3) → let a = c .before .before .before .before .before .before .before .before .before .before .before .before .before .before .before .args in
-    c .then3 .result ≡ frameAnswer (a .width) (a .height) (a .binned) (now (a .«record»)) (now (a .readings)) (now (a .sums)) (now (a .words))
-unfolding frameAnswer verdict
-answer-is c =
-    let s = c .before .before .before .before .before .before .before in
-    rw (
-      c .then3 .ensures,
-      c .before .then2 .ensures,
-      c .before .before .then .ensures,
-      c .before .before .before .check .ensures,
-      started-is s,
-      s .before .before .update .ensures,
-      s .before .before .before .before .«open» .ensures,
-      first-taken,
-    )
+answer-is : (c : tie.After-then) → let a = c .before .before .before .before .before .before .before .before .before .args in
+    c .then .result ≡ frameAnswer (a .width) (a .height) (a .binned) (now (a .«record»)) (now (a .readings)) (now (a .sums)) (now (a .words))
+answer-is c = rw (frame-is, c .then .ensures, c .before .check .ensures, c .before .before .before .before .before .begin .ensures)
+
+-- where none refuses
+passed : (c : tie.After-enum-told) → let b = c .before .before .before .before .before .before .before in
+    let a = b .before .before .before .before .args in
+    first (fed (b .begin .result .board) (now (a .readings)) (now (a .sums)) .answer) (readOut (b .begin .result .board) (now (a .readings)) (now (a .sums)) (now (a .words)) .answer) ≡ Taken
+passed c =
+    let t = c .before .before in
+    rw (← t .before .check .ensures) (both-taken (t .before .before .before .before .before .begin .result .answer) _ (sym (t .then .ensures) ∙ c .enum-told .given .1) .1)
 
 check-requires : tie.Need-check-requires
-check-requires c κs = rw (started-is (c .before .before .before)) (started-unfed _ _ _ _)
+check-requires c κs = rw (c .before .before .before .begin .ensures) (started-unfed _ _ _ _)
+
+feed-requires : tie.Need-feed-requires
+feed-requires c κs = frame-feedable _ _ _ _ (passed (c .before .before))
+
+write-frame-requires : tie.Need-write-frame-requires
+write-frame-requires c κs =
+    let f = c .before .before .before in
+    rw (f .feed .ensures) (frame-readable _ _ _ _ (passed (f .before .before .before)))
 
 returns : tie.Need-returns
 unfolding frameSums frameWords
 returns c =
-    let f = c .before .before .before .before .before .before .before in
-    let e = answer-is (f .before .before .before .before) in
-    let s = started-is (f .before .before .before .before .before .before .before .before .before .before .before) in
-    (e, rw (sym e ∙ f .before .before .enum-told .given .1) (rw (f .feed .ensures .1, s), rw (c .before .before .read-out .ensures .1, f .feed .ensures .0, f .feed .ensures .1, s)))
+    let w = c .before .before in
+    let f = w .before .before .before .before in
+    let g = f .before .before .before in
+    let e = answer-is (g .before .before) in
+    let b = g .before .before .before .before .before .before .before .begin .ensures in
+    (e, rw (sym e ∙ g .enum-told .given .1) (rw (f .feed .ensures, ← sums-are _ _ _ _ (passed g), b), rw (w .write-frame .ensures, f .feed .ensures, ← words-are _ _ _ _ (passed g), b)))
 
 returns-2 : tie.Need-returns-2
 unfolding frameSums frameWords
@@ -48,4 +52,4 @@ returns-2 c =
     (e, rw (sym e ∙ c .enum-told2 .given .1) (refl, refl))
 
 pub frame-of-spec : {M : Type 1} → statement M
-frame-of-spec = tie.close (tie.spec (λ c κs. search needs) (λ c κs. search needs) (λ c κs. search needs) check-requires (λ c κs. search needs) (λ c κs. search needs) (λ c κs. search needs) (λ c. search needs) (λ c κs. search needs) (λ c κs. search needs) (λ c. search needs) (λ c. search needs) (λ c. search needs) returns (λ c. search needs) (λ c. search needs) returns-2)
+frame-of-spec = tie.close (tie.spec (λ c κs. search needs) check-requires (λ c κs. search needs) (λ c. search needs) feed-requires write-frame-requires (λ c. search needs) (λ c. search needs) (λ c. search needs) returns (λ c. search needs) (λ c. search needs) returns-2)
