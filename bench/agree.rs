@@ -44,8 +44,18 @@ impl Agreement {
         let left = call(&self.programs[0]);
         for program in &self.programs[1..] {
             let other = call(program);
-            assert!(other.0 == left.0, "{what}: {} answers {:?}, ours {:?}", program.name, other.0, left.0);
-            assert!(other == left, "{what}: {} leaves other buffers", program.name);
+            assert!(
+                other.0 == left.0,
+                "{what}: {} answers {:?}, ours {:?}",
+                program.name,
+                other.0,
+                left.0
+            );
+            assert!(
+                other == left,
+                "{what}: {} leaves other buffers",
+                program.name
+            );
         }
         self.calls += 1;
         if let Err(refusal) = left.0 {
@@ -91,31 +101,60 @@ impl Agreement {
         let n = 1 + draws.below(9) as usize;
         let kind = KINDS[draws.below(3) as usize];
         let mut readings = data::readings(kind, m, u64::from(draws.below(1_000_000)));
-        let odd = |draws: &mut Draws, n: usize| (n + [0, 0, 0, 1, 2][draws.below(5) as usize]).saturating_sub(1);
-        let whole = if draws.below(2) == 0 { SAMPLES * m } else { n * m };
-        readings.truncate(if draws.below(4) == 0 { odd(draws, whole) } else { whole });
+        let odd = |draws: &mut Draws, n: usize| {
+            (n + [0, 0, 0, 1, 2][draws.below(5) as usize]).saturating_sub(1)
+        };
+        let whole = if draws.below(2) == 0 {
+            SAMPLES * m
+        } else {
+            n * m
+        };
+        readings.truncate(if draws.below(4) == 0 {
+            odd(draws, whole)
+        } else {
+            whole
+        });
         if draws.below(6) == 0 && !readings.is_empty() {
             for _ in 0..2 {
                 let at = draws.below(readings.len() as u32) as usize;
                 readings[at] = 16_383 + draws.below(40_000) as u16;
             }
         }
-        let mut sums = vec![77; if draws.below(10) == 0 { odd(draws, m) } else { m }];
-        let words = if draws.below(10) == 0 { odd(draws, b.words()) } else { b.words() };
+        let mut sums = vec![
+            77;
+            if draws.below(10) == 0 {
+                odd(draws, m)
+            } else {
+                m
+            }
+        ];
+        let words = if draws.below(10) == 0 {
+            odd(draws, b.words())
+        } else {
+            b.words()
+        };
         let _ = self.same("a damaged frame", |p| frame(p, &b, &readings, &sums, words));
 
         // Fed up to some place, then damaged, then fed on.
         let cut = draws.below(1 + readings.len() as u32) as usize;
-        sums = self.same("a first part", |p| feed(p, &b, 0, &readings[..cut], &sums)).1;
+        sums = self
+            .same("a first part", |p| feed(p, &b, 0, &readings[..cut], &sums))
+            .1;
         if draws.below(2) == 0 && !sums.is_empty() {
             for _ in 0..2 {
                 let at = draws.below(sums.len() as u32) as usize;
                 sums[at] = damage(draws);
             }
         }
-        let fed = if draws.below(8) == 0 { draws.below(10 * m as u32 + 10) as usize } else { cut };
+        let fed = if draws.below(8) == 0 {
+            draws.below(10 * m as u32 + 10) as usize
+        } else {
+            cut
+        };
         let end = cut + draws.below(1 + (readings.len() - cut) as u32) as usize;
-        let _ = self.same("a second part", |p| feed(p, &b, fed, &readings[cut..end], &sums));
+        let _ = self.same("a second part", |p| {
+            feed(p, &b, fed, &readings[cut..end], &sums)
+        });
         let _ = self.same("a damaged Read out", |p| read_out(p, &b, &sums, words));
     }
 }
@@ -130,11 +169,23 @@ fn record(draws: &mut Draws) -> Vec<u8> {
             match bit {
                 0..=8 => bytes.push(if bad { 32 } else { draws.below(32) as u8 }),
                 9 => {
-                    let threshold = if bad { 16_384 } else { 11_000 + draws.below(4_000) as u16 };
+                    let threshold = if bad {
+                        16_384
+                    } else {
+                        11_000 + draws.below(4_000) as u16
+                    };
                     bytes.extend(threshold.to_le_bytes());
                 }
-                10 => bytes.push(if bad { 4 * draws.below(2) as u8 } else { 1 + draws.below(3) as u8 }),
-                _ => bytes.push(if bad { 10 * draws.below(2) as u8 } else { 1 + draws.below(9) as u8 }),
+                10 => bytes.push(if bad {
+                    4 * draws.below(2) as u8
+                } else {
+                    1 + draws.below(3) as u8
+                }),
+                _ => bytes.push(if bad {
+                    10 * draws.below(2) as u8
+                } else {
+                    1 + draws.below(9) as u8
+                }),
             }
         }
     }

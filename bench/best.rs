@@ -71,7 +71,11 @@ fn sum_part(readings: &[u16], sums: &mut [i32], n: usize, weight: i32, threshold
         (1, _) => {
             for (entry, &x) in pairs {
                 let product = (u32::from(x) * size) as i32;
-                let sum = if weight < 0 { 128 - product } else { 128 + product };
+                let sum = if weight < 0 {
+                    128 - product
+                } else {
+                    128 + product
+                };
                 *entry = if x > threshold { mark } else { sum };
             }
         }
@@ -94,7 +98,11 @@ fn sum_part(readings: &[u16], sums: &mut [i32], n: usize, weight: i32, threshold
 #[inline(always)]
 fn stepped(entry: i32, over: bool, mark: i32, sum: i32) -> i32 {
     if over {
-        if entry > MARK { entry } else { mark }
+        if entry > MARK {
+            entry
+        } else {
+            mark
+        }
     } else if entry > MARK {
         entry
     } else {
@@ -156,13 +164,19 @@ fn sum_whole(s: &Settings, readings: &[u16], m: usize, p: usize, sums: &mut [i32
         let planes: [&[u16]; N] = std::array::from_fn(|n| &readings[n * m + p..][..sums.len()]);
         sum_planes(s, planes, sums);
     }
-    let by_samples = [go::<1>, go::<2>, go::<3>, go::<4>, go::<5>, go::<6>, go::<7>, go::<8>, go::<9>];
+    let by_samples = [
+        go::<1>, go::<2>, go::<3>, go::<4>, go::<5>, go::<6>, go::<7>, go::<8>, go::<9>,
+    ];
     by_samples[s.samples - 1](s, readings, m, p, sums);
 }
 
 fn pixel_words(sums: &[i32], words: &mut [u16], r: u32) {
     for (word, &entry) in words.iter_mut().zip(sums) {
-        let cut = if entry < 0 { 32_767 } else { entry >> r & 32_767 };
+        let cut = if entry < 0 {
+            32_767
+        } else {
+            entry >> r & 32_767
+        };
         let flag = 32_752 + (entry & 15);
         *word = (if entry > MARK { flag } else { cut }) as u16;
     }
@@ -176,7 +190,11 @@ fn square_words(upper: &[i32], lower: &[i32], words: &mut [u16], r: u32) {
     for ((word, &[a, b]), &[c, d]) in words.iter_mut().zip(upper).zip(lower) {
         let first = ahead(a).max(ahead(b)).max(ahead(c).max(ahead(d)));
         let total = sum(a) + sum(b) + (sum(c) + sum(d));
-        let cut = if total < 0 { 32_767 } else { total >> (r + 2) & 32_767 };
+        let cut = if total < 0 {
+            32_767
+        } else {
+            total >> (r + 2) & 32_767
+        };
         let flag = 32_752 + (10 - first & 15);
         *word = (if first > 0 { flag } else { cut }) as u16;
     }
@@ -184,7 +202,10 @@ fn square_words(upper: &[i32], lower: &[i32], words: &mut [u16], r: u32) {
 
 fn write_words(b: &Board, s: &Settings, sums: &[i32], words: &mut [u16]) {
     if b.binned {
-        for (rows, row) in sums.chunks_exact(2 * b.width).zip(words.chunks_exact_mut(b.width / 2)) {
+        for (rows, row) in sums
+            .chunks_exact(2 * b.width)
+            .zip(words.chunks_exact_mut(b.width / 2))
+        {
             let (upper, lower) = rows.split_at(b.width);
             square_words(upper, lower, row, s.truncation);
         }
@@ -230,7 +251,11 @@ fn frame(b: &Board, readings: &[u16], sums: &mut [i32], words: &mut [u16]) -> An
     // Two rows at a time, and their words while the sums are close.
     let band = 2 * b.width;
     let per_band = if b.binned { b.width / 2 } else { band };
-    for (i, (part, row)) in sums.chunks_mut(band).zip(words.chunks_mut(per_band)).enumerate() {
+    for (i, (part, row)) in sums
+        .chunks_mut(band)
+        .zip(words.chunks_mut(per_band))
+        .enumerate()
+    {
         sum_whole(&s, readings, m, i * band, part);
         write_words(b, &s, part, row);
     }

@@ -25,7 +25,11 @@ pub enum Kind {
     ManyNegative,
 }
 
-pub const KINDS: [Kind; 3] = [Kind::FewSaturating, Kind::MostSaturating, Kind::ManyNegative];
+pub const KINDS: [Kind; 3] = [
+    Kind::FewSaturating,
+    Kind::MostSaturating,
+    Kind::ManyNegative,
+];
 
 impl Kind {
     pub fn name(self) -> &'static str {

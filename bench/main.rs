@@ -25,7 +25,11 @@ fn check_agreement() {
                 let b = data::board(side, binned);
                 let readings = data::readings(kind, b.pixels(), side as u64);
                 let odd = 7 * b.pixels() / 5 + 3;
-                let parts: &[usize] = if side < 512 { &[b.pixels(), side, odd] } else { &[b.pixels(), odd] };
+                let parts: &[usize] = if side < 512 {
+                    &[b.pixels(), side, odd]
+                } else {
+                    &[b.pixels(), odd]
+                };
                 agreement.ramp(&b, &readings, parts);
             }
         }
@@ -34,7 +38,10 @@ fn check_agreement() {
     for _ in 0..20_000 {
         agreement.damaged(&mut draws);
     }
-    println!("{} calls: the three programs agree on every sum, word and refusal.", agreement.calls);
+    println!(
+        "{} calls: the three programs agree on every sum, word and refusal.",
+        agreement.calls
+    );
     let refused: Vec<String> = (0..100)
         .filter(|&n| agreement.refused[n] > 0)
         .map(|n| format!("{n}: {}", agreement.refused[n]))

@@ -19,5 +19,7 @@ fn read_out(b: &Board, sums: &[i32], words: &mut [u16]) -> Answer {
 }
 
 fn frame(b: &Board, readings: &[u16], sums: &mut [i32], words: &mut [u16]) -> Answer {
-    ramp_frame::frame(b.width, b.height, b.binned, &b.record, readings, sums, words)
+    ramp_frame::frame(
+        b.width, b.height, b.binned, &b.record, readings, sums, words,
+    )
 }

@@ -114,8 +114,10 @@ fn write_words(b: &Board, s: &Settings, sums: &[i32], words: &mut [u16]) {
             for i in 0..columns {
                 let at = 2 * j * b.width + 2 * i;
                 let below = at + b.width;
-                words[j * columns + i] =
-                    square_word([sums[at], sums[at + 1], sums[below], sums[below + 1]], s.truncation);
+                words[j * columns + i] = square_word(
+                    [sums[at], sums[at + 1], sums[below], sums[below + 1]],
+                    s.truncation,
+                );
             }
         }
     } else {

@@ -21,7 +21,13 @@ enum Row {
     WholeJob,
 }
 
-const ROWS: [Row; 5] = [Row::FeedWhole, Row::FeedSamples, Row::FeedRows, Row::ReadOut, Row::WholeJob];
+const ROWS: [Row; 5] = [
+    Row::FeedWhole,
+    Row::FeedSamples,
+    Row::FeedRows,
+    Row::ReadOut,
+    Row::WholeJob,
+];
 
 impl Row {
     fn name(self) -> &'static str {
@@ -89,7 +95,9 @@ fn times(row: Row, b: &Board, readings: &[u16]) -> Times {
             Buffers { sums, words }
         })
         .collect();
-    let [a, c, d, e] = &mut buffers[..] else { unreachable!() };
+    let [a, c, d, e] = &mut buffers[..] else {
+        unreachable!()
+    };
     take_turns(
         &mut [
             &mut || call(row, &PROGRAMS[0], b, readings, a),
@@ -114,7 +122,9 @@ struct Cost {
 }
 
 pub fn print(sides: &[usize]) {
-    println!("| row | binned | readings | side | ours / straightforward | ours / best | ours / limit |");
+    println!(
+        "| row | binned | readings | side | ours / straightforward | ours / best | ours / limit |"
+    );
     println!("|---|---|---|---|---|---|---|");
     let mut costs = vec![];
     for row in ROWS {
@@ -125,12 +135,29 @@ pub fn print(sides: &[usize]) {
                     let b = data::board(side, binned);
                     let readings = data::readings(kind, b.pixels(), side as u64);
                     let t = times(row, &b, &readings);
-                    let binning = if row.binnings().len() == 1 { "either" } else if binned { "yes" } else { "no" };
-                    let ratios = [t.ratio(0, 1), t.ratio(0, 2), t.ratio(0, 3)].map(shown).join(" | ");
-                    println!("| {} | {binning} | {} | {side} | {ratios} |", row.name(), kind.name());
+                    let binning = if row.binnings().len() == 1 {
+                        "either"
+                    } else if binned {
+                        "yes"
+                    } else {
+                        "no"
+                    };
+                    let ratios = [t.ratio(0, 1), t.ratio(0, 2), t.ratio(0, 3)]
+                        .map(shown)
+                        .join(" | ");
+                    println!(
+                        "| {} | {binning} | {} | {side} | {ratios} |",
+                        row.name(),
+                        kind.name()
+                    );
                     by_side.push(t.least(0) / b.pixels() as f64);
                 }
-                costs.push(Cost { row, binned, kind, by_side });
+                costs.push(Cost {
+                    row,
+                    binned,
+                    kind,
+                    by_side,
+                });
             }
         }
     }
@@ -140,13 +167,29 @@ pub fn print(sides: &[usize]) {
 fn print_flatness(costs: &[Cost], sides: &[usize]) {
     let named: Vec<String> = sides.iter().map(|side| format!("{side}")).collect();
     println!("\nOurs, per reading, as a part of what it is at side 128; and at side 1,024 as a part of the first kind of readings:\n");
-    println!("| row | binned | readings | {} | of the first kind |", named.join(" | "));
+    println!(
+        "| row | binned | readings | {} | of the first kind |",
+        named.join(" | ")
+    );
     println!("|---|---|---|{}---|", "---|".repeat(sides.len()));
     for c in costs {
-        let first = costs.iter().find(|f| f.row == c.row && f.binned == c.binned).unwrap();
+        let first = costs
+            .iter()
+            .find(|f| f.row == c.row && f.binned == c.binned)
+            .unwrap();
         let at_128 = c.by_side[sides.iter().position(|&side| side == 128).unwrap()];
-        let parts: Vec<String> = c.by_side.iter().map(|cost| format!("{:.2}", cost / at_128)).collect();
+        let parts: Vec<String> = c
+            .by_side
+            .iter()
+            .map(|cost| format!("{:.2}", cost / at_128))
+            .collect();
         let of_first = c.by_side.last().unwrap() / first.by_side.last().unwrap();
-        println!("| {} | {} | {} | {} | {of_first:.2} |", c.row.name(), if c.binned { "yes" } else { "no" }, c.kind.name(), parts.join(" | "));
+        println!(
+            "| {} | {} | {} | {} | {of_first:.2} |",
+            c.row.name(),
+            if c.binned { "yes" } else { "no" },
+            c.kind.name(),
+            parts.join(" | ")
+        );
     }
 }

@@ -48,7 +48,11 @@ pub fn take_turns(calls: &mut [&mut dyn FnMut()], seconds: f64) -> Times {
 
 impl Times {
     pub fn ratio(&self, a: usize, b: usize) -> Ratio {
-        let mut ratios: Vec<f64> = self.0[a].iter().zip(&self.0[b]).map(|(x, y)| x / y).collect();
+        let mut ratios: Vec<f64> = self.0[a]
+            .iter()
+            .zip(&self.0[b])
+            .map(|(x, y)| x / y)
+            .collect();
         ratios.sort_by(f64::total_cmp);
         Ratio {
             median: ratios[ratios.len() / 2],
