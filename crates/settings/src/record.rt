@@ -4,7 +4,7 @@ ghost use mathlib.Core.Bool.{cond};
 ghost use Prim.Native.Nat.{_+_, _<_};
 ghost use lib.ListN.{getD};
 ghost use Rattle.settings.specs.Record as Def;
-ghost use Rattle.settings.specs.Record.{pairAt, widthOf, placeOf, numberAt, numberOf, weightOf};
+ghost use Rattle.settings.specs.Record.{pairAt, widthOf, placeOf, numberAt, weightOf};
 use crate::Field;
 
 // How many fields there are: bits 0 to 11 of the map.
@@ -61,7 +61,7 @@ fn width(field: Field) -> usize
 }
 
 // Where the field after a bit's starts, where the bit's own would start at `at`.
-fn next_place(map: u16, bit: usize, at: usize) -> usize
+pub(crate) fn next_place(map: u16, bit: usize, at: usize) -> usize
     requires { ⌜ (bit < 16) × (at < 1000) ⌝ }
     ensures { λ r. ⌜ r ≡ cond (Def.stands map bit) (at + widthOf (Def.fieldOf bit)) at ⌝ }
 {
@@ -87,7 +87,7 @@ pub(crate) fn place_of(map: u16, bit: usize) -> usize
 }
 
 // A field's number at a place.
-fn number_at(field: Field, bytes: &[u8], at: usize) -> u16
+pub(crate) fn number_at(field: Field, bytes: &[u8], at: usize) -> u16
     requires { ⌜ at < 1000 ⌝ }
     ensures { λ r. ⌜ r ≡ numberAt field (now (bytes .entry)) at ⌝ }
 {
@@ -97,15 +97,6 @@ fn number_at(field: Field, bytes: &[u8], at: usize) -> u16
         Field::Truncation => byte(bytes, at) as u16,
         Field::Samples => byte(bytes, at) as u16,
     }
-}
-
-// The number that the record has for the field of a bit.
-pub(crate) fn number_of(bytes: &[u8], bit: usize) -> u16
-    requires { ⌜ bit < 16 ⌝ }
-    ensures { λ r. ⌜ r ≡ numberOf (now (bytes .entry)) bit ⌝ }
-{
-    let map = pair(bytes, 0);
-    number_at(field_of(bit), bytes, place_of(map, bit))
 }
 
 // The signed value of a weight byte: the sign in bit 4, the magnitude in bits 0 to 3.

@@ -1,10 +1,9 @@
 // Update: the checks of a record, and the settings that result.
 ghost use mathlib.Core.Path.{_≡_};
-ghost use Prim.Native.Nat.{_<_};
 ghost use Rattle.laws.specs.Lists.{each};
 ghost use Rattle.checks.specs.Checks.{verdict};
 ghost use Rattle.settings.specs.Record.{fieldCount, fieldOf};
-ghost use Rattle.settings.specs.Update.{checkOf, fieldCheck, updateChecks, withField, withBit, resulting, updateOf};
+ghost use Rattle.settings.specs.Update.{checkOf, fieldCheck, updateChecks, withField, resulting, updateOf};
 use crate::Field;
 use crate::Settings;
 use crate::Updated;
@@ -13,7 +12,8 @@ use crate::ranges::threshold_in_range;
 use crate::ranges::truncation_in_range;
 use crate::record::FIELDS;
 use crate::record::field_of;
-use crate::record::number_of;
+use crate::record::next_place;
+use crate::record::number_at;
 use crate::record::pair;
 use crate::record::place_of;
 use crate::record::stands;
@@ -32,26 +32,20 @@ fn check(field: Field, number: u16) -> Answer
     }
 }
 
-// The check of a bit's field, if the bit stands.
-fn check_bit(bytes: &[u8], bit: usize) -> Answer
-    requires { ⌜ bit < 16 ⌝ }
-    ensures { λ r. ⌜ r ≡ fieldCheck (now (bytes .entry)) bit ⌝ }
-{
-    if stands(pair(bytes, 0), bit) {
-        check(field_of(bit), number_of(bytes, bit))
-    } else {
-        Answer::Taken
-    }
-}
-
 // The fields in bit order, the first bad one.
 fn check_fields(bytes: &[u8]) -> Answer
     ensures { λ r. ⌜ r ≡ verdict (each (fieldCheck (now (bytes .entry))) fieldCount) ⌝ }
 {
+    let map = pair(bytes, 0);
     let mut answer = Answer::Taken;
+    let mut at: usize = 2;
     let mut bit: usize = 0;
     while bit < FIELDS {
-        answer = answer.then(check_bit(bytes, bit));
+        if stands(map, bit) {
+            let field = field_of(bit);
+            answer = answer.then(check(field, number_at(field, bytes, at)));
+        }
+        at = next_place(map, bit, at);
         bit += 1;
     }
     answer
@@ -91,26 +85,19 @@ impl Settings {
         s
     }
 
-    // The same, if the bit stands in the record's map.
-    fn with_bit(self, bytes: &[u8], bit: usize) -> Settings
-        requires { ⌜ bit < 16 ⌝ }
-        ensures { λ r. ⌜ r ≡ withBit (now (bytes .entry)) bit self ⌝ }
-    {
-        if stands(pair(bytes, 0), bit) {
-            self.with_field(bit, number_of(bytes, bit))
-        } else {
-            self
-        }
-    }
-
-    // The settings that would result, whatever the checks say.
+    // The settings that would result, whatever the checks say: each field whose bit stands is written.
     fn with_fields(self, bytes: &[u8]) -> Settings
         ensures { λ r. ⌜ r ≡ resulting (now (bytes .entry)) fieldCount self ⌝ }
     {
+        let map = pair(bytes, 0);
         let mut s = self;
+        let mut at: usize = 2;
         let mut bit: usize = 0;
         while bit < FIELDS {
-            s = s.with_bit(bytes, bit);
+            if stands(map, bit) {
+                s = s.with_field(bit, number_at(field_of(bit), bytes, at));
+            }
+            at = next_place(map, bit, at);
             bit += 1;
         }
         s

@@ -1,5 +1,6 @@
 -- `settings::update::check_fields` meets its contract.
 use Prim.Native.Nat.{_≤_, _-_}
+use mathlib.Core.Logic.{⊎-elim}
 use mathlib.Core.Path.{_≡_, _∙_, refl}
 use borrow.Author.Needs.{needs}
 use native.Mathlib.Omega.{arith}
@@ -7,34 +8,67 @@ use native.Mathlib.Numerals.{add-one}
 use denote.Ref.{now}
 use Rattle.laws.specs.Lists.{each}
 use Rattle.checks.specs.Checks.{verdict}
-use Rattle.checks.proofs.Laws.{verdict-each}
-use Rattle.settings.specs.Record.{fieldCount}
+use Rattle.checks.proofs.Laws.{first-taken, verdict-each}
+use Rattle.settings.specs.Record.{fieldCount, mapOf, placeOf}
 use Rattle.settings.specs.Update.{fieldCheck}
+use Rattle.settings.proofs.Fields.{place-small}
 use Rattle.settings.proofs.update.check_fields.Statement.{statement}
 use Rattle.settings.proofs.update.check_fields.Tie as tie
 
 abbrev Inv-loop : tie.InvT-loop
-Inv-loop bytes answer₀ bit₀ answer bit = (bit ≤ fieldCount) × (answer ≡ verdict (each (fieldCheck bytes) bit))
+Inv-loop bytes map answer₀ at₀ bit₀ answer at bit = (bit ≤ fieldCount) × (at ≡ placeOf (mapOf bytes) bit) × (answer ≡ verdict (each (fieldCheck bytes) bit))
 
 abbrev μ-loop : tie.MeasureT-loop
-μ-loop bytes answer₀ bit₀ answer bit = fieldCount - bit
+μ-loop bytes map answer₀ at₀ bit₀ answer at bit = fieldCount - bit
 
 loop-holds : tie.Need-loop-holds Inv-loop μ-loop
-unfolding verdict each
-loop-holds c = (omega arith, refl)
+unfolding placeOf verdict each
+loop-holds c = (omega arith, refl, refl)
+
+number-at-requires : tie.Need-number-at-requires Inv-loop μ-loop
+number-at-requires c κs =
+    let l = c .before .before .before .before in
+    omega (arith, place-small (mapOf (now (l .before .before .before .args .bytes))) (l .loop .bit))
+
+next-place-requires : tie.Need-next-place-requires Inv-loop μ-loop
+next-place-requires c κs =
+    let l = c .before .before .before in
+    omega (arith, place-small (mapOf (now (l .before .before .before .args .bytes))) (l .loop .bit))
 
 loop-again : tie.Need-loop-again Inv-loop μ-loop
+unfolding placeOf
 loop-again c =
-    let at = c .before .before .before in (
+    let l = c .before .before .before .before in
+    let map-is = l .before .pair .ensures in
+    let t = rw map-is at (c .before .before .stands .ensures) in
+    let check = fieldCheck (now (l .before .before .before .args .bytes)) in (
       search needs,
-      c .then .ensures
-          ∙ rw (add-one, verdict-each (fieldCheck (now (at .before .before .args .bytes))) (at .loop .bit), at .loop .inv .1, c .before .check-bit .ensures),
+      rw (add-one (l .loop .bit), c .next-place .ensures, map-is, l .loop .inv .1),
+      ⊎-elim
+          (λ w. w .5 ∙ w .4 .ensures
+          ∙ rw (w .3 .ensures, w .2 .ensures, w .1 .ensures, l .loop .inv .1, l .loop .inv .2, add-one (l .loop .bit), verdict-each check (l .loop .bit), ← t, w .0 .taken))
+          (λ w. w .1 ∙ l .loop .inv .2 ∙ rw (add-one (l .loop .bit), verdict-each check (l .loop .bit), ← t, w .0 .left, first-taken))
+          (c .before .if1 .came),
     )
 
 returns : tie.Need-returns Inv-loop μ-loop
-returns c = let e : c .before .loop .bit ≡ fieldCount = omega arith in c .before .loop .inv .1 ∙ rw e
+returns c = let e : c .before .loop .bit ≡ fieldCount = omega arith in c .before .loop .inv .2 ∙ rw e
 
 pub check-fields-spec : {M : Type 1} → statement M
 check-fields-spec =
     tie.close
-    (tie.spec Inv-loop μ-loop loop-holds (λ c κs. omega arith) (λ c κs. search needs) (λ c. search needs) (λ c. search needs) loop-again returns)
+    (tie.spec
+    Inv-loop
+    μ-loop
+    (λ c κs. search needs)
+    loop-holds
+    (λ c κs. omega arith)
+    (λ c κs. search needs)
+    number-at-requires
+    (λ c κs. search needs)
+    (λ c κs. search needs)
+    next-place-requires
+    (λ c. search needs)
+    (λ c. search needs)
+    loop-again
+    returns)
