@@ -11,6 +11,7 @@ mod plain;
 mod ramp_frame;
 mod rows;
 mod settings;
+mod table;
 mod timing;
 
 use data::{Draws, KINDS};
@@ -51,5 +52,8 @@ fn check_agreement() {
 
 fn main() {
     check_agreement();
-    rows::print(&SIDES);
+    table::head();
+    let cells = rows::measure(&SIDES, table::line);
+    table::flatness(&cells);
+    table::targets(&cells);
 }

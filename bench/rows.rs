@@ -4,7 +4,8 @@ use std::hint::black_box;
 
 use crate::data::{self, Kind, KINDS};
 use crate::job::{Board, Program};
-use crate::timing::{take_turns, Ratio, Times};
+pub use crate::timing::Ratio;
+use crate::timing::{take_turns, Times};
 use crate::{best, limit, ours, plain};
 
 const PROGRAMS: [Program; 3] = [ours::PROGRAM, plain::PROGRAM, best::PROGRAM];
@@ -13,7 +14,7 @@ const PROGRAMS: [Program; 3] = [ours::PROGRAM, plain::PROGRAM, best::PROGRAM];
 const SECONDS: f64 = 1.0;
 
 #[derive(Clone, Copy, PartialEq)]
-enum Row {
+pub enum Row {
     FeedWhole,
     FeedSamples,
     FeedRows,
@@ -30,7 +31,7 @@ const ROWS: [Row; 5] = [
 ];
 
 impl Row {
-    fn name(self) -> &'static str {
+    pub fn name(self) -> &'static str {
         match self {
             Row::FeedWhole => "Feed, whole ramp",
             Row::FeedSamples => "Feed, per sample",
@@ -41,7 +42,7 @@ impl Row {
     }
 
     /// Whether binning matters: Feed does not look at it.
-    fn binnings(self) -> &'static [bool] {
+    pub fn binnings(self) -> &'static [bool] {
         match self {
             Row::ReadOut | Row::WholeJob => &[false, true],
             _ => &[false],
@@ -109,87 +110,40 @@ fn times(row: Row, b: &Board, readings: &[u16]) -> Times {
     )
 }
 
-fn shown(r: Ratio) -> String {
-    format!("{:.2} ({:.2})", r.median, r.least)
+/// What was measured of a row on one kind of ramps.
+pub struct Cell {
+    pub row: Row,
+    pub binned: bool,
+    pub kind: Kind,
+    pub side: usize,
+    /// Ours to the straightforward program, to the best one and to the limit.
+    pub ratios: [Ratio; 3],
+    /// Our least time for each pixel.
+    pub cost: f64,
 }
 
-/// Our time for each reading, or for each pixel of a Read out, by row, kind and side: to show how flat it is.
-struct Cost {
-    row: Row,
-    binned: bool,
-    kind: Kind,
-    by_side: Vec<f64>,
-}
-
-pub fn print(sides: &[usize]) {
-    println!(
-        "| row | binned | readings | side | ours / straightforward | ours / best | ours / limit |"
-    );
-    println!("|---|---|---|---|---|---|---|");
-    let mut costs = vec![];
+pub fn measure(sides: &[usize], mut seen: impl FnMut(&Cell)) -> Vec<Cell> {
+    let mut cells = vec![];
     for row in ROWS {
         for &binned in row.binnings() {
             for kind in KINDS {
-                let mut by_side = vec![];
                 for &side in sides {
                     let b = data::board(side, binned);
                     let readings = data::readings(kind, b.pixels(), side as u64);
                     let t = times(row, &b, &readings);
-                    let binning = if row.binnings().len() == 1 {
-                        "either"
-                    } else if binned {
-                        "yes"
-                    } else {
-                        "no"
+                    let cell = Cell {
+                        row,
+                        binned,
+                        kind,
+                        side,
+                        ratios: [t.ratio(0, 1), t.ratio(0, 2), t.ratio(0, 3)],
+                        cost: t.least(0) / b.pixels() as f64,
                     };
-                    let ratios = [t.ratio(0, 1), t.ratio(0, 2), t.ratio(0, 3)]
-                        .map(shown)
-                        .join(" | ");
-                    println!(
-                        "| {} | {binning} | {} | {side} | {ratios} |",
-                        row.name(),
-                        kind.name()
-                    );
-                    by_side.push(t.least(0) / b.pixels() as f64);
+                    seen(&cell);
+                    cells.push(cell);
                 }
-                costs.push(Cost {
-                    row,
-                    binned,
-                    kind,
-                    by_side,
-                });
             }
         }
     }
-    print_flatness(&costs, sides);
-}
-
-fn print_flatness(costs: &[Cost], sides: &[usize]) {
-    let named: Vec<String> = sides.iter().map(|side| format!("{side}")).collect();
-    println!("\nOurs, per reading, as a part of what it is at side 128; and at side 1,024 as a part of the first kind of readings:\n");
-    println!(
-        "| row | binned | readings | {} | of the first kind |",
-        named.join(" | ")
-    );
-    println!("|---|---|---|{}---|", "---|".repeat(sides.len()));
-    for c in costs {
-        let first = costs
-            .iter()
-            .find(|f| f.row == c.row && f.binned == c.binned)
-            .unwrap();
-        let at_128 = c.by_side[sides.iter().position(|&side| side == 128).unwrap()];
-        let parts: Vec<String> = c
-            .by_side
-            .iter()
-            .map(|cost| format!("{:.2}", cost / at_128))
-            .collect();
-        let of_first = c.by_side.last().unwrap() / first.by_side.last().unwrap();
-        println!(
-            "| {} | {} | {} | {} | {of_first:.2} |",
-            c.row.name(),
-            if c.binned { "yes" } else { "no" },
-            c.kind.name(),
-            parts.join(" | ")
-        );
-    }
+    cells
 }
