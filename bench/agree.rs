@@ -70,14 +70,20 @@ impl Agreement {
         let whole = self.same("a frame", |p| frame(p, b, readings, &garbage, b.words()));
         assert!(whole.0.is_ok());
         for &part in parts {
-            let mut sums = garbage.clone();
-            for (i, some) in readings.chunks(part).enumerate() {
-                let left = self.same("a part", |p| feed(p, b, i * part, some, &sums));
-                assert!(left.0.is_ok());
-                sums = left.1;
+            for program in &self.programs {
+                let mut sums = garbage.clone();
+                for (i, some) in readings.chunks(part).enumerate() {
+                    let answer = (program.feed)(b, i * part, some, &mut sums);
+                    assert!(answer.is_ok(), "{} refuses a part", program.name);
+                    self.calls += 1;
+                }
+                assert!(
+                    sums == whole.1,
+                    "{}: parts of {part} leave other sums",
+                    program.name
+                );
             }
-            assert!(sums == whole.1, "parts of {part} leave other sums");
-            let left = self.same("a Read out", |p| read_out(p, b, &sums, b.words()));
+            let left = self.same("a Read out", |p| read_out(p, b, &whole.1, b.words()));
             assert!(left.0.is_ok() && left.2 == whole.2);
         }
     }

@@ -26,12 +26,7 @@ fn check_agreement() {
                 let b = data::board(side, binned);
                 let readings = data::readings(kind, b.pixels(), side as u64);
                 let odd = 7 * b.pixels() / 5 + 3;
-                let parts: &[usize] = if side < 512 {
-                    &[b.pixels(), side, odd]
-                } else {
-                    &[b.pixels(), odd]
-                };
-                agreement.ramp(&b, &readings, parts);
+                agreement.ramp(&b, &readings, &[b.pixels(), side, odd]);
             }
         }
     }
