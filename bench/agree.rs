@@ -25,13 +25,13 @@ fn read_out(program: &Program, b: &Board, sums: &[i32], words: usize) -> Left {
 }
 
 pub struct Agreement {
-    programs: [Program; 3],
+    programs: [Program; 4],
     pub calls: usize,
     pub refused: [usize; 100],
 }
 
 impl Agreement {
-    pub fn new(programs: [Program; 3]) -> Agreement {
+    pub fn new(programs: [Program; 4]) -> Agreement {
         Agreement {
             programs,
             calls: 0,

@@ -1,7 +1,7 @@
-//! The fastest program in safe Rust that was found by hand, with the same checks and answers. Every pass compiles to vector code with the machine's
-//! 16-bit multiplies, and a ramp that comes whole is summed in blocks of pixels, all samples of a block at once.
+//! The fastest program in safe Rust that was found by hand under the rules of ours: the same checks and answers, each reading is multiplied and
+//! added to its entry, and there is no buffer but the caller's. Every pass compiles to vector code with the machine's 16-bit multiplies.
 
-use crate::job::{refuse, Answer, Board, Program};
+use crate::job::{refuse, Answer, Board, Program, Refusal};
 use crate::settings::{begin, Settings, MARK, MAX_PRODUCT, MAX_READING};
 
 pub const PROGRAM: Program = Program {
@@ -10,9 +10,6 @@ pub const PROGRAM: Program = Program {
     read_out,
     frame,
 };
-
-/// Pixels that are summed together.
-const BLOCK: usize = 64;
 
 fn all_in_range(readings: &[u16]) -> bool {
     readings.iter().fold(0, |bits, x| bits | x) <= MAX_READING
@@ -38,7 +35,7 @@ fn check_entries(sums: &[i32], from: usize, to: usize, k: usize) -> Answer {
     refuse(14, from + at.unwrap())
 }
 
-fn check_feed(b: &Board, s: &Settings, fed: usize, readings: &[u16], sums: &[i32]) -> Answer {
+pub fn check_feed(b: &Board, s: &Settings, fed: usize, readings: &[u16], sums: &[i32]) -> Answer {
     let m = b.pixels();
     if fed > s.samples * m {
         return refuse(99, 0);
@@ -63,7 +60,7 @@ fn check_feed(b: &Board, s: &Settings, fed: usize, readings: &[u16], sums: &[i32
 }
 
 /// Readings of sample n, onto the entries of their pixels. The size of a weight has four bits, so its products are 16-bit multiplies.
-fn sum_part(readings: &[u16], sums: &mut [i32], n: usize, weight: i32, threshold: u16) {
+pub fn sum_part(readings: &[u16], sums: &mut [i32], n: usize, weight: i32, threshold: u16) {
     let mark = MARK + n as i32;
     let size = weight.unsigned_abs() & 15;
     let pairs = sums.iter_mut().zip(readings);
@@ -110,7 +107,7 @@ fn stepped(entry: i32, over: bool, mark: i32, sum: i32) -> i32 {
     }
 }
 
-fn sum_up(s: &Settings, fed: usize, readings: &[u16], sums: &mut [i32]) {
+pub fn sum_up(s: &Settings, fed: usize, readings: &[u16], sums: &mut [i32]) {
     let m = sums.len();
     let (mut n, mut p) = (fed / m + 1, fed % m);
     let mut left = readings;
@@ -122,52 +119,6 @@ fn sum_up(s: &Settings, fed: usize, readings: &[u16], sums: &mut [i32]) {
         n += 1;
         p = 0;
     }
-}
-
-/// All N samples of some pixels: plane n has their readings at sample n + 1. A reading is cut into seven low and seven high bits, so that the
-/// weighted totals of either fit in 16 bits.
-fn sum_planes<const N: usize>(s: &Settings, planes: [&[u16]; N], sums: &mut [i32]) {
-    let threshold = s.threshold as i16;
-    let weights: [i16; N] = std::array::from_fn(|n| s.weights[n] as i16);
-    let blocks: [&[[u16; BLOCK]]; N] = planes.map(|plane| plane.as_chunks().0);
-    let (all, rest) = sums.as_chunks_mut::<BLOCK>();
-    let (mut low, mut high, mut ahead) = ([0i16; BLOCK], [0i16; BLOCK], [0i16; BLOCK]);
-    for (i, block) in all.iter_mut().enumerate() {
-        let xs: [&[u16; BLOCK]; N] = std::array::from_fn(|n| &blocks[n][i]);
-        for l in 0..BLOCK {
-            let (mut low_total, mut high_total) = (0i16, 0i16);
-            // How far the first sample over the threshold comes before 10; 0 for none.
-            let mut first = 0i16;
-            for n in 0..N {
-                let x = xs[n][l] as i16;
-                low_total = low_total.wrapping_add(weights[n].wrapping_mul(x & 127));
-                high_total = high_total.wrapping_add(weights[n].wrapping_mul(x >> 7));
-                first = first.max(if x > threshold { 9 - n as i16 } else { 0 });
-            }
-            (low[l], high[l], ahead[l]) = (low_total, high_total, first);
-        }
-        for l in 0..BLOCK {
-            let total = 128 + i32::from(low[l]) + (i32::from(high[l]) << 7);
-            let mark = MARK + 10 - i32::from(ahead[l]);
-            block[l] = if ahead[l] > 0 { mark } else { total };
-        }
-    }
-    let done = BLOCK * all.len();
-    for n in 0..N {
-        sum_part(&planes[n][done..], rest, n + 1, s.weights[n], s.threshold);
-    }
-}
-
-/// The pixels of `sums`, which start at pixel p, of a ramp that comes whole.
-fn sum_whole(s: &Settings, readings: &[u16], m: usize, p: usize, sums: &mut [i32]) {
-    fn go<const N: usize>(s: &Settings, readings: &[u16], m: usize, p: usize, sums: &mut [i32]) {
-        let planes: [&[u16]; N] = std::array::from_fn(|n| &readings[n * m + p..][..sums.len()]);
-        sum_planes(s, planes, sums);
-    }
-    let by_samples = [
-        go::<1>, go::<2>, go::<3>, go::<4>, go::<5>, go::<6>, go::<7>, go::<8>, go::<9>,
-    ];
-    by_samples[s.samples - 1](s, readings, m, p, sums);
 }
 
 fn pixel_words(sums: &[i32], words: &mut [u16], r: u32) {
@@ -200,7 +151,7 @@ fn square_words(upper: &[i32], lower: &[i32], words: &mut [u16], r: u32) {
     }
 }
 
-fn write_words(b: &Board, s: &Settings, sums: &[i32], words: &mut [u16]) {
+pub fn write_words(b: &Board, s: &Settings, sums: &[i32], words: &mut [u16]) {
     if b.binned {
         for (rows, row) in sums
             .chunks_exact(2 * b.width)
@@ -217,11 +168,7 @@ fn write_words(b: &Board, s: &Settings, sums: &[i32], words: &mut [u16]) {
 fn feed(b: &Board, fed: usize, readings: &[u16], sums: &mut [i32]) -> Answer {
     let s = begin(b)?;
     check_feed(b, &s, fed, readings, sums)?;
-    if readings.len() == s.samples * sums.len() {
-        sum_whole(&s, readings, sums.len(), 0, sums);
-    } else {
-        sum_up(&s, fed, readings, sums);
-    }
+    sum_up(&s, fed, readings, sums);
     Ok(())
 }
 
@@ -238,26 +185,27 @@ fn read_out(b: &Board, sums: &[i32], words: &mut [u16]) -> Answer {
     Ok(())
 }
 
-fn frame(b: &Board, readings: &[u16], sums: &mut [i32], words: &mut [u16]) -> Answer {
+/// The checks of a whole job, each made once.
+pub fn check_frame(
+    b: &Board,
+    readings: &[u16],
+    sums: &[i32],
+    words: &[u16],
+) -> Result<Settings, Refusal> {
     let s = begin(b)?;
     check_feed(b, &s, 0, readings, sums)?;
-    let m = b.pixels();
-    if readings.len() < s.samples * m {
-        return refuse(15, 0);
+    if readings.len() < s.samples * b.pixels() {
+        refuse(15, 0)?;
     }
     if words.len() != b.words() {
-        return refuse(16, 0);
+        refuse(16, 0)?;
     }
-    // Two rows at a time, and their words while the sums are close.
-    let band = 2 * b.width;
-    let per_band = if b.binned { b.width / 2 } else { band };
-    for (i, (part, row)) in sums
-        .chunks_mut(band)
-        .zip(words.chunks_mut(per_band))
-        .enumerate()
-    {
-        sum_whole(&s, readings, m, i * band, part);
-        write_words(b, &s, part, row);
-    }
+    Ok(s)
+}
+
+fn frame(b: &Board, readings: &[u16], sums: &mut [i32], words: &mut [u16]) -> Answer {
+    let s = check_frame(b, readings, sums, words)?;
+    sum_up(&s, 0, readings, sums);
+    write_words(b, &s, sums, words);
     Ok(())
 }

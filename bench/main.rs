@@ -1,7 +1,8 @@
-//! Compares the proved program with a straightforward one and with the best hand-written one: same jobs, same machine, same run.
+//! Compares the proved program with hand-written ones: same jobs, same machine, same run.
 
 mod agree;
 mod best;
+mod blocks;
 mod data;
 mod job;
 mod limit;
@@ -19,7 +20,7 @@ use data::{Draws, KINDS};
 const SIDES: [usize; 4] = [32, 128, 512, 1024];
 
 fn check_agreement() {
-    let mut agreement = agree::Agreement::new([ours::PROGRAM, plain::PROGRAM, best::PROGRAM]);
+    let mut agreement = agree::Agreement::new(rows::PROGRAMS);
     for side in SIDES {
         for binned in [false, true] {
             for kind in KINDS {
@@ -35,7 +36,7 @@ fn check_agreement() {
         agreement.damaged(&mut draws);
     }
     println!(
-        "{} calls: the three programs agree on every sum, word and refusal.",
+        "{} calls: the four programs agree on every sum, word and refusal.",
         agreement.calls
     );
     let refused: Vec<String> = (0..100)

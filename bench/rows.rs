@@ -6,9 +6,14 @@ use crate::data::{self, Kind, KINDS};
 use crate::job::{Board, Program};
 pub use crate::timing::Ratio;
 use crate::timing::{take_turns, Times};
-use crate::{best, limit, ours, plain};
+use crate::{best, blocks, limit, ours, plain};
 
-const PROGRAMS: [Program; 3] = [ours::PROGRAM, plain::PROGRAM, best::PROGRAM];
+pub const PROGRAMS: [Program; 4] = [
+    ours::PROGRAM,
+    plain::PROGRAM,
+    best::PROGRAM,
+    blocks::PROGRAM,
+];
 
 /// How long each row may take, in seconds.
 const SECONDS: f64 = 1.0;
@@ -87,16 +92,16 @@ fn call_limit(row: Row, readings: &[u16], left: &mut Buffers) {
     }
 }
 
-/// The times of our program, the straightforward one, the best one and the limit, in turns.
+/// The times of each program and of the limit, in turns.
 fn times(row: Row, b: &Board, readings: &[u16]) -> Times {
-    let mut buffers: Vec<Buffers> = (0..4)
+    let mut buffers: Vec<Buffers> = (0..=PROGRAMS.len())
         .map(|_| {
             let (mut sums, mut words) = (vec![0; b.pixels()], vec![0; b.words()]);
             (best::PROGRAM.frame)(b, readings, &mut sums, &mut words).unwrap();
             Buffers { sums, words }
         })
         .collect();
-    let [a, c, d, e] = &mut buffers[..] else {
+    let [a, c, d, e, f] = &mut buffers[..] else {
         unreachable!()
     };
     take_turns(
@@ -104,7 +109,8 @@ fn times(row: Row, b: &Board, readings: &[u16]) -> Times {
             &mut || call(row, &PROGRAMS[0], b, readings, a),
             &mut || call(row, &PROGRAMS[1], b, readings, c),
             &mut || call(row, &PROGRAMS[2], b, readings, d),
-            &mut || call_limit(row, readings, e),
+            &mut || call(row, &PROGRAMS[3], b, readings, e),
+            &mut || call_limit(row, readings, f),
         ],
         SECONDS,
     )
@@ -116,8 +122,8 @@ pub struct Cell {
     pub binned: bool,
     pub kind: Kind,
     pub side: usize,
-    /// Ours to the straightforward program, to the best one and to the limit.
-    pub ratios: [Ratio; 3],
+    /// Ours to the straightforward program, to the best one, to that in blocks and to the limit.
+    pub ratios: [Ratio; 4],
     /// Our least time for each pixel.
     pub cost: f64,
 }
@@ -136,7 +142,7 @@ pub fn measure(sides: &[usize], mut seen: impl FnMut(&Cell)) -> Vec<Cell> {
                         binned,
                         kind,
                         side,
-                        ratios: [t.ratio(0, 1), t.ratio(0, 2), t.ratio(0, 3)],
+                        ratios: [1, 2, 3, 4].map(|other| t.ratio(0, other)),
                         cost: t.least(0) / b.pixels() as f64,
                     };
                     seen(&cell);

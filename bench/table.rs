@@ -23,9 +23,9 @@ fn shown(r: Ratio) -> String {
 
 pub fn head() {
     println!(
-        "| row | binned | readings | side | ours / straightforward | ours / best | ours / limit |"
+        "| row | binned | readings | side | ours / straightforward | ours / best | ours / blocks | ours / limit |"
     );
-    println!("|---|---|---|---|---|---|---|");
+    println!("|---|---|---|---|---|---|---|---|");
 }
 
 pub fn line(c: &Cell) {
