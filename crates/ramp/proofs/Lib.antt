@@ -1,4 +1,5 @@
 -- The laws of a ramp.
+pub mod Products
 pub mod Steps
 pub mod Places
 pub mod Feeding

@@ -1,25 +1,23 @@
 -- The laws of one step.
 --     ground-one, ground-not    what sample n adds to
 --     ground-range              it lies where a product can be added
---     product                   the bound of weight × reading
 --     possible-step             a step takes an entry that is possible for k to one that is possible for k + 1; sample 1 takes any entry
 use Prim.Native.Nat.{ℕ, zero, suc, _+_, _*_, _≤_, _<_}
 use mathlib.Core.Bool.{Bool, true, false, cond}
 use mathlib.Core.Logic.{_⊎_, inl, inr, ⊎-elim}
 use mathlib.Core.Path.{_≡_, refl}
 use native.Mathlib.Omega.{arith}
-use borrow.Author.Tests.{leb-true}
 use lib.IntN.{ℤ, pos, negℤ, _+ℤ_, _*ℤ_}
-use lib.Signed.{_≤ℤ_, leZ}
-use Rattle.laws.proofs.Tests.{and-true}
-use Rattle.laws.proofs.Ints.{up, dn, sum, scaled, signed, is-le, not-le}
+use lib.Signed.{_≤ℤ_}
+use Rattle.laws.proofs.Ints.{up, dn, sum, signed, is-le, not-le}
 use Rattle.settings.specs.declared.Settings.{Settings}
 use Rattle.settings.specs.Settings.{weightInRange, weightAt}
 use Rattle.settings.proofs.Parts.{InRange}
 use Rattle.entries.specs.Mark.{mark}
-use Rattle.entries.specs.Possible.{maxReading, maxProduct, readingInRange, possible}
+use Rattle.entries.specs.Possible.{readingInRange, possible}
 use Rattle.entries.proofs.Possible.{Mark, Near, fair, is-fair}
 use Rattle.ramp.specs.Step.{overIt, ground, onGround, step}
+use Rattle.ramp.proofs.Products.{product}
 
 pub ground-one : (n : ℕ) (e : ℤ) → n ≡ 1 → pos 128 ≡ ground n e
 ground-one n e q = rw q
@@ -38,11 +36,6 @@ ground-range zero e h a = absurd (omega arith)
 ground-range (suc zero) e h a = (record { le = tt }, record { le = tt })
 ground-range (suc (suc n)) e h a =
     ⊎-elim (λ m. omega signed) (λ m. omega signed) (fair (suc n) e (a (suc n) (omega arith) refl))
-
-pub product : (w : ℤ) (x : ℕ) → weightInRange w ≡ true → readingInRange x ≡ true → (up (w *ℤ pos x) ≤ maxProduct) × (dn (w *ℤ pos x) ≤ maxProduct)
-product w x p q =
-    let h = and-true (leZ (negℤ (pos 15)) w) (leZ w (pos 15)) p in
-    scaled w x 15 maxReading (omega signed) (leb-true x maxReading q)
 
 pub weight-in-range : (s : Settings) → InRange s → (n : ℕ) → weightInRange (weightAt s n) ≡ true
 weight-in-range s r zero = refl

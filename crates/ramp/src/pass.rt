@@ -6,7 +6,7 @@ ghost use lib.Dec.{ltb};
 ghost use lib.IntN.{pos};
 ghost use lib.ListN.{length, getD};
 ghost use Rattle.laws.specs.Lists.{every, over};
-ghost use Rattle.settings.specs.Settings.{weightInRange};
+ghost use Rattle.settings.specs.Settings.{weightInRange, thresholdInRange};
 ghost use Rattle.entries.specs.Mark.{mark};
 ghost use Rattle.entries.specs.Possible.{readingInRange, possible};
 ghost use Rattle.ramp.specs.Step.{ground, onGround, step};
@@ -20,6 +20,7 @@ fn feed_part(readings: &[u16], sums: &mut [i32], n: usize, weight: i32, threshol
     requires { ⌜ length (now readings) ≡ length (now sums) ⌝ }
     requires { ⌜ (1 ≤ n) × (n ≤ 9) ⌝ }
     requires { ⌜ weightInRange weight ≡ true ⌝ }
+    requires { ⌜ thresholdInRange threshold ≡ true ⌝ }
     requires { ⌜ every readingInRange (now readings) ≡ true ⌝ }
     requires { ⌜ ((k : ℕ) → 1 ≤ k → n ≡ suc k → every (possible k) (now sums) ≡ true) ⌝ }
     ensures { λ r. ⌜ now (sums .exit) ≡ over (λ x e. onGround weight (ltb threshold x) (mark n) (ground n e) x) (now (readings .entry)) (now (sums .entry)) ⌝ }

@@ -1,11 +1,11 @@
 // What one reading does to one entry.
 ghost use mathlib.Core.Path.{_≡_};
-ghost use mathlib.Core.Bool.{true};
+ghost use mathlib.Core.Bool.{true, cond};
 ghost use Prim.Native.Nat.{ℕ, suc, _≤_};
 ghost use lib.Dec.{ltb};
-ghost use lib.IntN.{pos, negℤ};
+ghost use lib.IntN.{pos, negℤ, natAbs, _*ℤ_};
 ghost use lib.Signed.{_≤ℤ_};
-ghost use Rattle.settings.specs.Settings.{weightInRange};
+ghost use Rattle.settings.specs.Settings.{weightInRange, thresholdInRange};
 ghost use Rattle.entries.specs.Mark.{mark};
 ghost use Rattle.entries.specs.Possible.{readingInRange, possible};
 ghost use Rattle.ramp.specs.Step as Def;
@@ -19,27 +19,62 @@ fn ground(entry: i32, n: usize) -> i32
     if n == 1 { 128 } else { entry }
 }
 
-// A marked entry stays, a reading above the threshold makes the mark, any other adds its product. The arms only pick.
+// The magnitude of a weight, without its sign.
+fn magnitude(weight: i32) -> u16
+    requires { ⌜ weightInRange weight ≡ true ⌝ }
+    ensures { λ r. ⌜ r ≡ natAbs weight ⌝ }
+{
+    if weight < 0 {
+        (-weight) as u16
+    } else {
+        weight as u16
+    }
+}
+
+// weight * reading. The magnitude is multiplied and then takes the sign: a product of two 16-bit numbers is a cheap one.
+fn product(weight: i32, reading: u16) -> i32
+    requires { ⌜ weightInRange weight ≡ true ⌝ }
+    requires { ⌜ readingInRange reading ≡ true ⌝ }
+    ensures { λ r. ⌜ r ≡ weight *ℤ pos reading ⌝ }
+{
+    let size = (magnitude(weight) as u32 * reading as u32) as i32;
+    if weight < 0 { -size } else { size }
+}
+
+// Whether a reading is above the threshold. Both are far below 32,768, where a signed test says the same and is the cheaper one.
+fn is_above(reading: u16, threshold: u16) -> bool
+    requires { ⌜ readingInRange reading ≡ true ⌝ }
+    requires { ⌜ thresholdInRange threshold ≡ true ⌝ }
+    ensures { λ r. ⌜ r ≡ ltb threshold reading ⌝ }
+{
+    reading as i16 > threshold as i16
+}
+
+// One of two numbers, both at hand: no work hangs on the test.
+fn pick(test: bool, yes: i32, no: i32) -> i32
+    ensures { λ r. ⌜ r ≡ cond test yes no ⌝ }
+{
+    if test { yes } else { no }
+}
+
+// A marked entry stays, a reading above the threshold makes the mark, any other adds its product.
 fn on_ground(entry: i32, reading: u16, weight: i32, threshold: u16, mark: i32) -> i32
     requires { ⌜ weightInRange weight ≡ true ⌝ }
+    requires { ⌜ thresholdInRange threshold ≡ true ⌝ }
     requires { ⌜ readingInRange reading ≡ true ⌝ }
     requires { ⌜ (negℤ (pos 1073741824) ≤ℤ entry) × (entry ≤ℤ pos 1073741833) ⌝ }
     ensures { λ r. ⌜ r ≡ onGround weight (ltb threshold reading) mark entry reading ⌝ }
 {
-    let sum = entry + weight * (reading as i32);
-    if reading > threshold {
-        if entry > MARK { entry } else { mark }
-    } else if entry > MARK {
-        entry
-    } else {
-        sum
-    }
+    let sum = entry + product(weight, reading);
+    let next = pick(is_above(reading, threshold), mark, sum);
+    pick(entry > MARK, entry, next)
 }
 
 // The entry after a reading of sample n.
 pub(crate) fn stepped(entry: i32, reading: u16, n: usize, weight: i32, threshold: u16) -> i32
     requires { ⌜ (1 ≤ n) × (n ≤ 9) ⌝ }
     requires { ⌜ weightInRange weight ≡ true ⌝ }
+    requires { ⌜ thresholdInRange threshold ≡ true ⌝ }
     requires { ⌜ readingInRange reading ≡ true ⌝ }
     requires { ⌜ ((k : ℕ) → 1 ≤ k → n ≡ suc k → possible k entry ≡ true) ⌝ }
     ensures { λ r. ⌜ r ≡ onGround weight (ltb threshold reading) (mark n) (Def.ground n entry) reading ⌝ }

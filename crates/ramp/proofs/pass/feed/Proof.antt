@@ -5,6 +5,7 @@ use native.Mathlib.Omega.{arith}
 use native.Mathlib.Nat.{add-sub-cancel-left}
 use native.Mathlib.Numerals.{add-one}
 use borrow.Author.Needs.{needs}
+use borrow.Author.Tests.{le-leb}
 use lib.IntN.{pos}
 use lib.ListN.{length, take, drop}
 use lib.Seq.{take-all}
@@ -13,6 +14,7 @@ use mir.Syntax.{w32}
 use Rattle.laws.proofs.Ints.{back}
 use Rattle.laws.proofs.Every.{every-take, every-drop}
 use Rattle.laws.proofs.Parts.{part-length}
+use Rattle.settings.specs.Settings.{maxThreshold}
 use Rattle.settings.proofs.Parts.{in-range-parts}
 use Rattle.entries.specs.Possible.{readingInRange}
 use Rattle.ramp.specs.Step.{step}
@@ -78,6 +80,7 @@ feed-part-requires c κs =
     let l = b .before .loop in
     let a = s b .args in
     let h = s b .pre in
+    let r = in-range-parts (a .settings) (h .settings) in
     let k = c .before .before .before .least .result in
     let w = back w32 (c .before .before .weight .result) (c .before .before .weight .ok) ∙ c .before .before .weight .ensures in
     simp (add-sub-cancel-left, w) (
@@ -85,10 +88,13 @@ feed-part-requires c κs =
       (
         (omega (arith, here b), omega (arith, here b)),
         (
-          weight-in-range (a .settings) (in-range-parts (a .settings) (h .settings)) (at b / m b + 1),
+          weight-in-range (a .settings) r (at b / m b + 1),
           (
-            every-take readingInRange k (drop (l .i) (now (a .readings))) (every-drop readingInRange (l .i) (now (a .readings)) (h .readings)),
-            rw (l .inv .2) (turn-possible (a .settings) (a .fed) (now (a .readings)) (now (a .sums)) h (l .i) k (omega arith) (omega (arith, here b))),
+            le-leb (a .settings .threshold) maxThreshold (r .threshold),
+            (
+              every-take readingInRange k (drop (l .i) (now (a .readings))) (every-drop readingInRange (l .i) (now (a .readings)) (h .readings)),
+              rw (l .inv .2) (turn-possible (a .settings) (a .fed) (now (a .readings)) (now (a .sums)) h (l .i) k (omega arith) (omega (arith, here b))),
+            ),
           ),
         ),
       ),

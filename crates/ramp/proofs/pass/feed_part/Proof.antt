@@ -46,8 +46,11 @@ stepped-requires c κs =
       (
         h .1 .0,
         (
-          every-at readingInRange (now (a .readings)) (h .1 .1 .0) 0 (l .i) (omega arith),
-          λ k p q. rw (l .inv .2, over-at) (every-at (possible k) (now (a .sums)) (h .1 .1 .1 k p q) (pos 0) (l .i) (omega arith)),
+          h .1 .1 .0,
+          (
+            every-at readingInRange (now (a .readings)) (h .1 .1 .1 .0) 0 (l .i) (omega arith),
+            λ k p q. rw (l .inv .2, over-at) (every-at (possible k) (now (a .sums)) (h .1 .1 .1 .1 k p q) (pos 0) (l .i) (omega arith)),
+          ),
         ),
       ),
     )

@@ -32,7 +32,7 @@ add-on-ground c = rw (sample c) (newMark c)
 on-ground-requires : tie.Need-on-ground-requires
 on-ground-requires c κs =
     let h = c .before .pre in
-    simp (toZ-ofZ, c .before .fits .weight) (h .1 .0, (h .1 .1 .0, rw (base c) (ground-range _ _ (h .0) (h .1 .1 .1))))
+    simp (toZ-ofZ, c .before .fits .weight) (h .1 .0, (h .1 .1 .0, (h .1 .1 .1 .0, rw (base c) (ground-range _ _ (h .0) (h .1 .1 .1 .1)))))
 
 returns : tie.Need-returns
 returns c =
