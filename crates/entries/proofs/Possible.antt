@@ -1,16 +1,18 @@
 -- What `possible` says, in linear facts.
 --     Mark, Near           a mark of a sample up to k; or near 128
 --     fair, is-fair        from the test to the facts, and back
+--     gap, gap-is          how far the mark of sample k lies above the highest sum
+--     lowered-is           with marks moved down by the gap, one range tells
 use Prim.Native.Nat.{ℕ, _+_, _*_, _≤_}
-use mathlib.Core.Bool.{true, _&&_}
+use mathlib.Core.Bool.{Bool, true, cond, _&&_}
 use mathlib.Core.Logic.{_⊎_, inl, inr, ⊎-elim}
-use mathlib.Core.Path.{_≡_}
+use mathlib.Core.Path.{_≡_, sym, _∙_}
 use native.Mathlib.Omega.{arith}
 use lib.IntN.{ℤ, pos, negℤ, _+ℤ_, _-ℤ_}
 use lib.Signed.{leZ}
-use Rattle.laws.proofs.Tests.{and-true, or-true, or-right}
-use Rattle.laws.proofs.Ints.{up, dn, sum, neg-up, neg-dn, is-le, signed}
-use Rattle.entries.specs.Mark.{mark}
+use Rattle.laws.proofs.Tests.{cases, and-true, or-true, or-right, or-false}
+use Rattle.laws.proofs.Ints.{up, dn, sum, neg-up, neg-dn, is-le, not-le, signed}
+use Rattle.entries.specs.Mark.{mark, marked}
 use Rattle.entries.specs.Possible.{maxProduct, possible}
 
 abbrev pub Mark : ℕ → ℤ → Type 0
@@ -39,3 +41,31 @@ module _ (k : ℕ) where
   is-fair e (inl m) =
       rw (is-le (mark 1) e (omega arith), is-le e (mark k) (omega arith)) (or-right (leZ (pos 128 -ℤ span) e && leZ e (pos 128 +ℤ span)))
   is-fair e (inr m) = rw (is-le (pos 128 -ℤ span) e (omega (arith, low)), is-le e (pos 128 +ℤ span) (omega arith))
+
+  abbrev pub gap : ℤ
+  gap = mark k -ℤ (pos 128 +ℤ span)
+
+  pub gap-is : up gap + (128 + k * maxProduct) ≡ dn gap + (1073741824 + k)
+  gap-is = omega (arith, sum (mark k) (negℤ (pos 128 +ℤ span)), neg-up (pos 128 +ℤ span), neg-dn (pos 128 +ℤ span))
+
+  module _ (few : k ≤ 9) (e : ℤ) where
+    abbrev inside : ℤ → Bool
+    inside y = leZ (pos 128 -ℤ span) y && leZ y (pos 128 +ℤ span)
+
+    -- a mark is inside exactly where its sample is at most k
+    moved : up (e -ℤ gap) + (dn e + up gap) ≡ dn (e -ℤ gap) + (up e + dn gap)
+    moved = omega (arith, sum e (negℤ gap), neg-up gap, neg-dn gap)
+
+    mark-inside : marked e ≡ true → inside (e -ℤ gap) ≡ leZ e (mark k)
+    mark-inside t =
+        rw (is-le (pos 128 -ℤ span) (e -ℤ gap) (omega (signed, low, moved, gap-is)))
+        (cases (leZ e (mark k))
+        (λ u. is-le (e -ℤ gap) (pos 128 +ℤ span) (omega (signed, moved, gap-is)) ∙ sym u)
+        (λ u. not-le (e -ℤ gap) (pos 128 +ℤ span) (omega (signed, moved, gap-is)) ∙ sym u))
+
+    pub lowered-is : inside (cond (marked e) (e -ℤ gap) e) ≡ possible k e
+    unfolding possible
+    lowered-is =
+        cases (marked e)
+        (λ t. rw (t, is-le (pos 128 -ℤ span) e (omega (signed, low)), not-le e (pos 128 +ℤ span) (omega signed)) (mark-inside t))
+        (λ t. rw t (sym (or-false (inside e))))

@@ -1,12 +1,14 @@
 // An entry of the sums: a sum, or a mark in its place.
 ghost use mathlib.Core.Path.{_≡_};
-ghost use mathlib.Core.Bool.{not};
+ghost use mathlib.Core.Bool.{not, cond};
 ghost use Prim.Native.Nat.{_≤_};
 ghost use lib.Dec.{ltb};
-ghost use lib.IntN.{pos};
+ghost use lib.IntN.{pos, _-ℤ_};
 ghost use lib.ListN.{length, getD};
+ghost use lib.Signed.{_≤ℤ_};
 ghost use Rattle.laws.specs.Lists.{every};
 ghost use Rattle.checks.specs.Search.{firstPlace};
+ghost use Rattle.entries.specs.Mark.{marked};
 ghost use Rattle.entries.specs.Possible.{maxReading, readingInRange, possible};
 use checks::Found;
 
@@ -18,14 +20,24 @@ pub const MAX_READING: u16 = 16383;
 // The largest weight times the largest reading.
 const MAX_PRODUCT: i32 = 245745;
 
-// Whether an entry is possible after k samples.
+// A mark moved down by a gap; a sum stays.
+fn lowered(entry: i32, gap: i32) -> i32
+    requires { ⌜ (pos 0 ≤ℤ gap) × (gap ≤ℤ pos 1073741825) ⌝ }
+    ensures { λ r. ⌜ r ≡ cond (marked entry) (entry -ℤ gap) entry ⌝ }
+{
+    if entry > MARK { entry - gap } else { entry }
+}
+
+// Whether an entry is possible after k samples. With the mark of sample k moved down to the highest sum, one range holds sums and marks.
 fn is_possible(entry: i32, k: usize) -> bool
     requires { ⌜ k ≤ 9 ⌝ }
     ensures { λ r. ⌜ r ≡ possible k entry ⌝ }
 {
     let samples = k as i32;
     let span = samples * MAX_PRODUCT;
-    (128 - span <= entry) & (entry <= 128 + span) | (MARK + 1 <= entry) & (entry <= MARK + samples)
+    let high = 128 + span;
+    let moved = lowered(entry, MARK + samples - high);
+    (128 - span <= moved) & (moved <= high)
 }
 
 // Whether each entry is, with no early exit.

@@ -1,7 +1,6 @@
 -- ℤ for `omega`: each integer z is read as the difference of two naturals, `up z - dn z`, of which one is 0. A sum, a test and a range of integers
 -- are then linear facts about `up` and `dn`, which `omega` reads as unknowns.
 --     sum, neg-up, neg-dn, times-up               the parts of a sum, a negation and a product with a natural
---     scaled                                      the bound of a product
 --     le-true .. lt-false                         what a test of order says; is-le, not-le the test's value from the fact
 --     signed                                      `omega`'s list with the tests of order: `omega signed`, `omega (signed, sum a b)`
 --     fits, fitted, whole                         from a range to `SFits`, and back; a number that isn't negative
@@ -9,9 +8,9 @@
 --     same                                        equal differences, equal integers
 use mathlib.Core.Path.{_≡_, refl, sym, ap, _∙_}
 use mathlib.Core.Bool.{Bool, true, false, cond}
-use Prim.Native.Nat.{ℕ, zero, suc, _+_, _-_, _*_, _<_, _≤_, _^_, zero-le}
+use Prim.Native.Nat.{ℕ, zero, suc, _+_, _-_, _*_, _<_, _≤_, _^_}
 use native.Mathlib.Omega.{arith}
-use native.Mathlib.Nat.{zero-mul, mul-le-mul}
+use native.Mathlib.Nat.{zero-mul}
 use lib.Dec.{T, ltb}
 use lib.IntN.{ℤ, pos, negsuc, negℤ, natAbs, subℕ, _+ℤ_, _*ℤ_}
 use lib.Signed.{mag, nonNeg, ltZ, leZ}
@@ -57,11 +56,6 @@ neg-dn (negsuc a) = refl
 pub times-up : (a : ℤ) (n : ℕ) → up (a *ℤ pos n) ≡ up a * n
 times-up (pos a) n = refl
 times-up (negsuc a) n = neg-up (pos (suc a * n)) ∙ sym (zero-mul n)
-
--- z within k, times a natural within b
-pub scaled : (z : ℤ) (r k b : ℕ) → (up z ≤ dn z + k) × (dn z ≤ up z + k) → r ≤ b → (up (z *ℤ pos r) ≤ k * b) × (dn (z *ℤ pos r) ≤ k * b)
-scaled (pos a) r k b h m = (mul-le-mul (omega arith) m, omega arith)
-scaled (negsuc a) r k b h m = rw (neg-up (pos (suc a * r)), neg-dn (pos (suc a * r))) (zero-le, mul-le-mul (omega arith) m)
 
 -- ---- tests
 

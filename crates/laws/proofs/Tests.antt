@@ -45,3 +45,7 @@ neither false b e = (refl, e)
 pub or-right : (a : Bool) → a || true ≡ true
 or-right true = refl
 or-right false = refl
+
+pub or-false : (a : Bool) → a || false ≡ a
+or-false true = refl
+or-false false = refl

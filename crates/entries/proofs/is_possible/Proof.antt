@@ -1,14 +1,14 @@
--- `entries::is_possible` meets its contract: each bound fits, and the result is the test itself.
+-- `entries::is_possible` meets its contract: each bound fits, and one range tells.
 use Prim.Native.Nat.{ℕ, _+_, _*_}
 use native.Mathlib.Omega.{arith}
 use borrow.Author.Needs.{needs}
-use mathlib.Core.Path.{_≡_}
+use mathlib.Core.Path.{_≡_, _∙_}
 use lib.IntN.{ℤ, pos, negℤ, _+ℤ_, _-ℤ_}
 use mir.Syntax.{w32}
-use mir.Val.{SFits, toZ}
+use mir.Val.{SFits, toZ, ofZ}
 use mir.Facts.{toZ-ofZ}
-use Rattle.laws.proofs.Ints.{sum, neg-up, neg-dn, fits, toZ-nat}
-use Rattle.entries.specs.Possible.{possible}
+use Rattle.laws.proofs.Ints.{sum, neg-up, neg-dn, fits, back, signed, toZ-nat}
+use Rattle.entries.proofs.Possible.{gap, gap-is, lowered-is}
 use Rattle.entries.proofs.is_possible.Statement.{statement}
 use Rattle.entries.proofs.is_possible.Tie as tie
 
@@ -34,22 +34,42 @@ module _ (c : tie.Start) where
   high : SFits w32 (pos 128 +ℤ span)
   high = record { sfits = omega arith }
 
+  between : SFits w32 (gap k)
+  between = fits w32 _ (omega (arith, gap-is k))
+
 mul-span : tie.Need-mul-span
 mul-span c = rw (samples c) (product c)
 
+add-high : tie.Need-add-high
+add-high c = rw (samples c) (simp (toZ-ofZ, product c) (high c))
+
+add-lowered : tie.Need-add-lowered
+add-lowered c = rw (samples c) (top c)
+
+sub-lowered : tie.Need-sub-lowered
+sub-lowered c = rw (samples c) (simp (toZ-ofZ, product c, top c, high c) (between c))
+
+lowered-requires : tie.Need-lowered-requires
+lowered-requires c κs = rw (samples c) (simp (toZ-ofZ, product c, top c, high c, between c) (omega (signed, gap-is (k c)), omega (signed, gap-is (k c))))
+
 sub-result : tie.Need-sub-result
-sub-result c = rw (samples c) (simp (toZ-ofZ, product c) (low c))
-
-add-result : tie.Need-add-result
-add-result c = rw (samples c) (simp (toZ-ofZ, product c) (high c))
-
-add-result-3 : tie.Need-add-result-3
-add-result-3 c = rw (samples c) (top c)
+sub-result c = rw (samples (c .before)) (simp (toZ-ofZ, product (c .before)) (low (c .before)))
 
 returns : tie.Need-returns
-unfolding possible
-returns c = rw (samples c) (simp (toZ-ofZ, c .fits .entry, product c, top c, low c, high c))
+returns c =
+    let s = c .before in
+    let told = back w32 (c .lowered .result) (c .lowered .ok) ∙ simp (samples s, toZ-ofZ, s .fits .entry, product s, top s, high s, between s) at (c .lowered .ensures) in
+    rw (samples s, told) (simp (toZ-ofZ, product s, low s, high s) (lowered-is (k s) (s .pre) (s .args .entry)))
 
 pub is-possible-spec : {M : Type 1} → statement M
 is-possible-spec =
-    tie.close (tie.spec (λ c. search needs) mul-span sub-result add-result (λ c. search needs) add-result-3 returns)
+    tie.close
+    (tie.spec
+    (λ c. search needs)
+    mul-span
+    add-high
+    add-lowered
+    sub-lowered
+    lowered-requires
+    sub-result
+    returns)
