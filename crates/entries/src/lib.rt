@@ -2,14 +2,13 @@
 ghost use mathlib.Core.Path.{_≡_};
 ghost use mathlib.Core.Bool.{not, cond};
 ghost use Prim.Native.Nat.{_≤_};
-ghost use lib.Dec.{ltb};
 ghost use lib.IntN.{pos, _-ℤ_};
 ghost use lib.ListN.{length, getD};
 ghost use lib.Signed.{_≤ℤ_};
 ghost use Rattle.laws.specs.Lists.{every};
 ghost use Rattle.checks.specs.Search.{firstPlace};
 ghost use Rattle.entries.specs.Mark.{marked};
-ghost use Rattle.entries.specs.Possible.{maxReading, readingInRange, possible};
+ghost use Rattle.entries.specs.Possible.{readingInRange, possible};
 use checks::Found;
 
 // The mark of sample n is this and n more.
@@ -45,13 +44,13 @@ fn all_possible(sums: &[i32], k: usize) -> bool
     requires { ⌜ k ≤ 9 ⌝ }
     ensures { λ r. ⌜ r ≡ every (possible k) (now (sums .entry)) ⌝ }
 {
-    let mut ok = true;
+    let mut bad = false;
     let mut i = 0;
     while i < sums.len() {
-        ok = ok & is_possible(sums[i], k);
+        bad = bad | !is_possible(sums[i], k);
         i += 1;
     }
-    ok
+    !bad
 }
 
 // The place of the first entry that isn't possible after k samples.

@@ -1,6 +1,6 @@
 -- Tests: what a conjunction or a disjunction says, and back; and reasoning by a test's value.
 use Prim.Native.Nat.{ℕ}
-use mathlib.Core.Bool.{Bool, true, false, _&&_, _||_}
+use mathlib.Core.Bool.{Bool, true, false, not, _&&_, _||_}
 use mathlib.Core.Logic.{_⊎_, inl, inr}
 use mathlib.Core.Path.{_≡_, refl}
 use native.Mathlib.Omega.{arith}
@@ -49,3 +49,8 @@ or-right false = refl
 pub or-false : (a : Bool) → a || false ≡ a
 or-false true = refl
 or-false false = refl
+
+pub not-or-not : (a b : Bool) → not (a || not b) ≡ not a && b
+not-or-not true b = refl
+not-or-not false true = refl
+not-or-not false false = refl

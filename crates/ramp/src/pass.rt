@@ -4,7 +4,7 @@ ghost use mathlib.Core.Bool.{true};
 ghost use Prim.Native.Nat.{ℕ, suc, _≤_};
 ghost use lib.Dec.{ltb};
 ghost use lib.IntN.{pos};
-ghost use lib.ListN.{length, getD};
+ghost use lib.ListN.{length};
 ghost use Rattle.laws.specs.Lists.{every, over};
 ghost use Rattle.settings.specs.Settings.{weightInRange, thresholdInRange};
 ghost use Rattle.entries.specs.Mark.{mark};

@@ -1,28 +1,25 @@
--- A readable entry: its range, its sample and its sum.
+-- A readable entry: its range and its sample.
 --     possible-readable                  an entry that is possible after some samples
 --     by-kind                            a mark of sample 1 to 9, or a sum within 2^28
---     apart, before, sample-range        the differences that the code takes
---     ahead, ahead-read, ahead-le, ahead-smaller     how far a sample comes before 10
+--     range                              the range of both
+--     apart, sample-range                a mark's sample, as the code takes it
+--     ahead, ahead-le, ahead-none, ahead-smaller     how far a sample comes before 15
 --     few, few-smaller                   a sample is at most 9
---     sumIn, sum-is                      the sum, and 0 for a mark
---     small, small-two, small-four       one, two and four sums fit
 use Prim.Native.Nat.{ℕ, _+_, _-_, _≤_, max}
-use mathlib.Core.Bool.{true, false, cond, _&&_}
+use mathlib.Core.Bool.{true, false, _&&_}
 use mathlib.Core.Logic.{⊎-elim}
 use mathlib.Core.Option.{Option, none, some}
 use mathlib.Core.Path.{_≡_, sym, ap, _∙_}
 use native.Mathlib.Omega.{arith}
-use lib.IntN.{ℤ, pos, negℤ, _+ℤ_, _-ℤ_}
+use lib.IntN.{ℤ, pos, negℤ, _-ℤ_}
 use lib.Signed.{leZ, _≤ℤ_}
 use mir.Syntax.{w32}
-use mir.Val.{SFits, toZ, ofZ}
-use mir.Facts.{toZ-ofZ}
-use Rattle.laws.proofs.Ints.{up, dn, sum, neg-up, neg-dn, fits, is-le, toZ-nat, signed}
-use Rattle.laws.proofs.Numbers.{less}
+use mir.Val.{SFits}
+use Rattle.laws.proofs.Ints.{up, dn, sum, fits, is-le, signed}
 use Rattle.laws.proofs.Tests.{clash, and-true, or-true, or-right}
 use Rattle.entries.specs.Mark.{mark, marked, sampleOf}
 use Rattle.entries.specs.Possible.{possible}
-use Rattle.entries.proofs.Marks.{is-marked, sample-is, sample-none, by-mark}
+use Rattle.entries.proofs.Marks.{sample-is, sample-none, by-mark}
 use Rattle.entries.proofs.Possible.{fair}
 use Rattle.words.specs.Word.{smaller, readable}
 
@@ -48,36 +45,26 @@ by-kind e h f g =
     by-mark e (λ n l q. absurd (omega (signed, ap up q, ap dn q))) (λ u. g u (omega signed)))
     (or-true (leZ (mark 1) e && leZ e (mark 9)) (leZ (negℤ (pos 268435456)) e && leZ e (pos 268435456)) h)
 
-range : (e : ℤ) → readable e ≡ true → (dn e ≤ up e + 268435456) × (up e ≤ dn e + 1073741833)
+pub range : (e : ℤ) → readable e ≡ true → (dn e ≤ up e + 268435456) × (up e ≤ dn e + 1073741833)
 range e h = by-kind e h (λ n l m q. omega (arith, ap up q, ap dn q)) (λ u s. omega signed)
 
 pub apart : (e : ℤ) → readable e ≡ true → SFits w32 (e -ℤ pos 1073741824)
 apart e h = fits w32 _ (omega (arith, range e h, sum e (negℤ (pos 1073741824))))
 
-pub before : (e : ℤ) → readable e ≡ true → SFits w32 (pos 1073741834 -ℤ e)
-before e h = fits w32 _ (omega (arith, range e h, sum (pos 1073741834) (negℤ e), neg-up e, neg-dn e))
-
 -- a sample
-pub sample-range : (e : ℤ) → readable e ≡ true → marked e ≡ true → (pos 0 ≤ℤ (e -ℤ pos 1073741824)) × ((e -ℤ pos 1073741824) ≤ℤ pos 9)
+pub sample-range : (e : ℤ) → readable e ≡ true → marked e ≡ true → (pos 0 ≤ℤ (e -ℤ pos 1073741824)) × ((e -ℤ pos 1073741824) ≤ℤ pos 15)
 sample-range e h t = by-kind e h (λ n l m q. omega (signed, ap up q, ap dn q, sum e (negℤ (pos 1073741824)))) (λ u s. clash (sym t ∙ u))
 
--- how far a sample comes before 10, and 0 for none: the largest belongs to the smallest sample
+-- how far a sample comes before 15, and 0 for none: the largest belongs to the smallest sample
 abbrev pub ahead : Option ℕ → ℕ
 ahead none = 0
-ahead (some n) = 10 - n
+ahead (some n) = 15 - n
 
-ahead-is : (e : ℤ) → readable e ≡ true → cond (marked e) (pos 1073741834 -ℤ e) (pos 0) ≡ pos (ahead (sampleOf e))
-ahead-is e h =
-    by-kind e h
-    (λ n l m q. rw (q, is-marked n l, sample-is n l) (less 1073741834 (1073741824 + n) (omega arith) ∙ ap pos (omega arith)))
-    (λ u s. rw (u, sample-none e u))
-
-pub ahead-le : (e : ℤ) → ahead (sampleOf e) ≤ 9
+pub ahead-le : (e : ℤ) → ahead (sampleOf e) ≤ 14
 ahead-le e = by-mark e (λ n l q. rw (q, sample-is n l) (omega arith)) (λ u. rw (sample-none e u) (omega arith))
 
--- as a call returns it
-pub ahead-read : (e z : ℤ) → SFits w32 e → readable e ≡ true → let v = toZ w32 (ofZ w32 e) in z ≡ cond (marked v) (pos 1073741834 -ℤ v) (pos 0) → toZ w32 (ofZ w32 z) ≡ pos (ahead (sampleOf e))
-ahead-read e z f h q = rw (q, toZ-ofZ f, ahead-is e h) (toZ-nat w32 _ (omega (arith, ahead-le e)))
+pub ahead-none : (e : ℤ) → readable e ≡ true → ahead (sampleOf e) ≡ 0 → Small e
+ahead-none e h z = by-kind e h (λ n l m q. absurd (omega (arith, rw (q, sample-is n l) at z))) (λ u s. s)
 
 pub ahead-smaller : (a b : Option ℕ) → ahead (smaller a b) ≡ max (ahead a) (ahead b)
 ahead-smaller none b = omega arith
@@ -96,19 +83,3 @@ pub few-smaller : (a b : Option ℕ) → Few a → Few b → Few (smaller a b)
 few-smaller none b h k = k
 few-smaller (some a) none h k = h
 few-smaller (some a) (some b) h k = omega arith
-
--- the sum, and 0 for a mark
-abbrev pub sumIn : ℤ → ℤ
-sumIn e = cond (marked e) (pos 0) e
-
-pub sum-is : (e : ℤ) → sampleOf e ≡ none → sumIn e ≡ e
-sum-is e h = by-mark e (λ n l q. let z : _≡_ {A = ℕ} 0 1 = cc (sample-is n l, h, ap sampleOf q) in absurd (omega arith)) (λ u. rw u)
-
-pub small : (a : ℤ) → Small a → SFits w32 a
-small a h = fits w32 a (omega signed)
-
-pub small-two : (a b : ℤ) → Small a → Small b → SFits w32 (a +ℤ b)
-small-two a b h k = fits w32 (a +ℤ b) (omega (signed, sum a b))
-
-pub small-four : (a b c d : ℤ) → Small a → Small b → Small c → Small d → SFits w32 (a +ℤ b +ℤ (c +ℤ d))
-small-four a b c d h k l m = fits w32 (a +ℤ b +ℤ (c +ℤ d)) (omega (signed, sum a b, sum c d, sum (a +ℤ b) (c +ℤ d)))

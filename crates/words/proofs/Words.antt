@@ -5,7 +5,7 @@
 --     pixel, square              what the code computes is the word
 use Prim.Native.Nat.{ℕ, _+_, _-_, _*_, _/_, _%_, _^_, _≤_, _<_, max}
 use mathlib.Core.Bool.{Bool, true, false, cond}
-use mathlib.Core.List.{List, [], _∷_, map}
+use mathlib.Core.List.{List, [], _∷_}
 use mathlib.Core.Option.{Option, none, some}
 use mathlib.Core.Path.{_≡_, refl, _∙_}
 use native.Mathlib.Nat.{mod-eq-of-lt, one-mul, mul-comm, max-zero}
@@ -25,15 +25,15 @@ use Rattle.laws.proofs.Tests.{and-true}
 use Rattle.settings.specs.Settings.{truncationInRange}
 use Rattle.entries.specs.Mark.{marked, sampleOf}
 use Rattle.entries.proofs.Marks.{is-marked, sample-is, sample-none, by-mark}
-use Rattle.words.specs.Word.{smaller, smallestMark, isNegative, cutBy, wordBy, wordOf, readable}
-use Rattle.words.proofs.Entries.{ahead, ahead-smaller, Few, few, few-smaller, sumIn, sum-is}
+use Rattle.words.specs.Word.{smallestMark, isNegative, cutBy, wordBy, wordOf, readable}
+use Rattle.words.proofs.Entries.{ahead, ahead-smaller, Few, few, few-smaller}
 
 pub in-range : (r : ℕ) → truncationInRange r ≡ true → (1 ≤ r) × (r ≤ 3)
 in-range r e = let t = and-true (leb 1 r) (leb r 3) e in (leb-true 1 r (t .0), leb-true r 3 (t .1))
 
 -- a sample
-pub kept : (z : ℤ) → (pos 0 ≤ℤ z) × (z ≤ℤ pos 9) → (bitAnd (natAbs z) 15 ≡ natAbs z) × (natAbs z ≤ 9)
-kept (pos n) h = let k : n ≤ 9 = omega signed in (and-mask n 4 ∙ mod-eq-of-lt (omega arith), k)
+pub kept : (z : ℤ) → (pos 0 ≤ℤ z) × (z ≤ℤ pos 15) → (bitAnd (natAbs z) 15 ≡ natAbs z) × (natAbs z ≤ 15)
+kept (pos n) h = let k : n ≤ 15 = omega signed in (and-mask n 4 ∙ mod-eq-of-lt (omega arith), k)
 kept (negsuc n) h = absurd (omega signed)
 
 -- the word of a total: the sign rule, or what is left once it is cut
@@ -61,31 +61,20 @@ unfolding smallestMark
 few-all [] h = tt
 few-all (e ∷ es) h = few-smaller (sampleOf e) (smallestMark es) (few e (h .0)) (few-all es (h .1))
 
-smaller-none : (a b : Option ℕ) → smaller a b ≡ none → (a ≡ none) × (b ≡ none)
-smaller-none none b e = (refl, e)
-smaller-none (some a) none e = (e, refl)
-smaller-none (some a) (some b) e = let z : _≡_ {A = ℕ} 0 1 = cc in absurd (omega arith)
-
--- where no entry is marked, every sum counts
-sums-all : (es : List ℤ) → smallestMark es ≡ none → total (map sumIn es) ≡ total es
-unfolding smallestMark total
-sums-all [] e = refl
-sums-all (e ∷ es) h = let t = smaller-none (sampleOf e) (smallestMark es) h in rw (sum-is e (t .0), sums-all es (t .1))
-
-word-of : (r : ℕ) (es : List ℤ) (o : Option ℕ) (t : ℤ) → Few o → (o ≡ none → t ≡ total es) → cond (ltb 0 (ahead o)) (32752 + (10 - ahead o)) (cutWord (length es * 2 ^ r) t) ≡ wordBy r o es
+word-of : (r : ℕ) (es : List ℤ) (o : Option ℕ) (t : ℤ) → Few o → (o ≡ none → t ≡ total es) → cond (ltb 0 (ahead o)) (32752 + (15 - ahead o)) (cutWord (length es * 2 ^ r) t) ≡ wordBy r o es
 unfolding isNegative
 word-of r es none t f h = rw (h refl)
-word-of r es (some n) t f h = rw (lt-ltb 0 (10 - n) (omega arith)) (omega arith)
+word-of r es (some n) t f h = rw (lt-ltb 0 (15 - n) (omega arith)) (omega arith)
 
 pub square : (a b c d : ℤ) (r k : ℕ) (t : ℤ)
     → All (λ e. readable e ≡ true) (a ∷ b ∷ c ∷ d ∷ [])
     → k ≡ max (max (ahead (sampleOf a)) (ahead (sampleOf b))) (max (ahead (sampleOf c)) (ahead (sampleOf d)))
-    → t ≡ sumIn a +ℤ sumIn b +ℤ (sumIn c +ℤ sumIn d)
-    → cond (ltb 0 k) (32752 + (10 - k)) (cutWord (2 ^ (r + 2)) t) ≡ wordOf r (a ∷ b ∷ c ∷ d ∷ [])
+    → t ≡ cond (ltb 0 k) (pos 0) (a +ℤ b +ℤ (c +ℤ d))
+    → cond (ltb 0 k) (32752 + (15 - k)) (cutWord (2 ^ (r + 2)) t) ≡ wordOf r (a ∷ b ∷ c ∷ d ∷ [])
 unfolding smallestMark total
 square a b c d r k t h p q =
     let es = a ∷ b ∷ c ∷ d ∷ [] in
     let m : k ≡ ahead (smallestMark es) = p ∙ simp (ahead-smaller, max-zero) (max-assoc _ _ _) in
-    let u : t ≡ total (map sumIn es) = q ∙ rw (+ℤ-idr (sumIn d)) (+ℤ-assoc (sumIn a) (sumIn b) (sumIn c +ℤ sumIn d)) in
+    let u : a +ℤ b +ℤ (c +ℤ d) ≡ total es = rw (+ℤ-idr d) (+ℤ-assoc a b (c +ℤ d)) in
     let v : 2 ^ (r + 2) ≡ 4 * 2 ^ r = pow-add 2 r 2 ∙ mul-comm (2 ^ r) 4 in
-    rw (m, v) (word-of r es (smallestMark es) t (few-all es h) (λ e. u ∙ sums-all es e))
+    rw (m, v) (word-of r es (smallestMark es) t (few-all es h) (λ e. rw (m, e) at q ∙ u))

@@ -1,37 +1,37 @@
 // From the entry of a pixel, or the four of a square, to the word.
 ghost use mathlib.Core.Path.{_≡_};
-ghost use mathlib.Core.Bool.{true, cond};
+ghost use mathlib.Core.Bool.{true, false, cond};
 ghost use mathlib.Core.List.{[], _∷_};
-ghost use Prim.Native.Nat.{ℕ, _+_, _^_, _<_, _≤_, max};
-ghost use lib.IntN.{pos, negℤ, natAbs, _-ℤ_};
-ghost use lib.Signed.{_≤ℤ_, ltZ};
+ghost use Prim.Native.Nat.{_+_, _^_, _<_, _≤_};
+ghost use lib.IntN.{pos, negℤ, natAbs, _+ℤ_, _-ℤ_};
+ghost use lib.Signed.{_≤ℤ_, leZ, ltZ};
 ghost use Rattle.settings.specs.Settings.{truncationInRange};
 ghost use Rattle.entries.specs.Mark.{marked};
 ghost use Rattle.words.specs.Word.{readable, wordOf, cutBy};
 use entries::MARK;
 
-// How far a mark's sample comes before 10, and 0 for a sum: the largest belongs to the smallest sample.
-fn ahead_in(entry: i32) -> i32
+// An entry with its last four bits turned over: of two marks the earlier one is then the larger, and each sum is still below each mark.
+fn turned(entry: i32) -> i32
     requires { ⌜ readable entry ≡ true ⌝ }
-    ensures { λ r. ⌜ r ≡ cond (marked entry) (pos 1073741834 -ℤ entry) (pos 0) ⌝ }
+    ensures mark { λ r. ⌜ (marked entry ≡ true → r ≡ pos 2147483663 -ℤ entry) ⌝ }
+    ensures near { λ r. ⌜ (entry ≤ℤ (r +ℤ pos 15)) × (r ≤ℤ (entry +ℤ pos 15)) ⌝ }
 {
-    let ahead = MARK + 10 - entry;
-    if entry > MARK { ahead } else { 0 }
-}
-
-// The sum, and 0 for a mark: four of them can be added.
-fn sum_in(entry: i32) -> i32
-    requires { ⌜ readable entry ≡ true ⌝ }
-    ensures { λ r. ⌜ r ≡ cond (marked entry) (pos 0) entry ⌝ }
-    ensures { λ r. ⌜ (negℤ (pos 268435456) ≤ℤ r) × (r ≤ℤ pos 268435456) ⌝ }
-{
-    if entry > MARK { 0 } else { entry }
+    entry ^ 15
 }
 
 fn greater(a: i32, b: i32) -> i32
-    ensures { λ r. ⌜ ((m n : ℕ) → a ≡ pos m → b ≡ pos n → r ≡ pos (max m n)) ⌝ }
+    ensures { λ r. ⌜ r ≡ cond (leZ b a) a b ⌝ }
 {
     if a >= b { a } else { b }
+}
+
+// The total of four sums, and 0 where one of them is a mark. Four marks don't fit 32 bits.
+fn total_of(marked: bool, a: i32, b: i32, c: i32, d: i32) -> i32
+    requires { ⌜ (marked ≡ false → let t = a +ℤ b +ℤ (c +ℤ d) in (negℤ (pos 1073741824) ≤ℤ t) × (t ≤ℤ pos 1073741824)) ⌝ }
+    ensures { λ r. ⌜ r ≡ cond marked (pos 0) (a +ℤ b +ℤ (c +ℤ d)) ⌝ }
+{
+    let total = a as i64 + b as i64 + (c as i64 + d as i64);
+    if marked { 0 } else { total as i32 }
 }
 
 // The sign is taken before anything is cut off.
@@ -48,7 +48,7 @@ fn cut_off(total: i32, shift: u16) -> u32
 
 // A mark's word, or the other. The mask leaves a sample as it is, and shows the compiler that both words have 15 bits.
 fn flagged(marked: bool, sample: i32, word: u32) -> u16
-    requires { ⌜ (marked ≡ true → (pos 0 ≤ℤ sample) × (sample ≤ℤ pos 9)) ⌝ }
+    requires { ⌜ (marked ≡ true → (pos 0 ≤ℤ sample) × (sample ≤ℤ pos 15)) ⌝ }
     requires { ⌜ word < 32768 ⌝ }
     ensures { λ r. ⌜ r ≡ cond marked (32752 + natAbs sample) word ⌝ }
 {
@@ -76,9 +76,10 @@ pub(crate) fn square_word(a: i32, b: i32, c: i32, d: i32, truncation: u16) -> u1
     requires { ⌜ truncationInRange truncation ≡ true ⌝ }
     ensures { λ r. ⌜ r ≡ wordOf truncation (a ∷ b ∷ c ∷ d ∷ []) ⌝ }
 {
-    let upper = greater(ahead_in(a), ahead_in(b));
-    let lower = greater(ahead_in(c), ahead_in(d));
-    let total = sum_in(a) + sum_in(b) + (sum_in(c) + sum_in(d));
-    let ahead = greater(upper, lower);
-    flagged(ahead > 0, 10 - ahead, cut_off(total, truncation + 2))
+    let upper = greater(turned(a), turned(b));
+    let lower = greater(turned(c), turned(d));
+    let first = greater(upper, lower);
+    let marked = first > MARK;
+    let total = total_of(marked, a, b, c, d);
+    flagged(marked, MARK + 15 - first, cut_off(total, truncation + 2))
 }

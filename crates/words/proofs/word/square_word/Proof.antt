@@ -1,24 +1,34 @@
--- `words::word::square_word` meets its contract: the sample is the smallest of the four, and the total theirs.
-use mathlib.Core.Path.{_≡_, refl, _∙_}
-use Prim.Native.Nat.{ℕ, max, _+_, _-_, _^_, _≤_}
+-- `words::word::square_word` meets its contract: the largest turned entry has the smallest sample, and where none is marked the total is that of four sums.
+use mathlib.Core.Path.{_≡_, refl, sym, _∙_}
+use mathlib.Core.Bool.{false, cond}
+use Prim.Native.Nat.{ℕ, max, _+_, _^_, _≤_}
 use native.Mathlib.Omega.{arith}
 use borrow.Author.Needs.{needs}
-use lib.IntN.{ℤ, pos, _+ℤ_, _-ℤ_}
+use borrow.Author.Tests.{ltb-false}
+use lib.Dec.{ltb}
+use lib.IntN.{ℤ, pos, negℤ, _+ℤ_, _-ℤ_}
+use lib.Signed.{ltZ, _≤ℤ_}
 use mir.Syntax.{w32}
 use mir.Val.{SFits, toZ, ofZ}
 use mir.Facts.{toZ-ofZ}
-use Rattle.laws.proofs.Ints.{signed, back, toZ-nat}
-use Rattle.laws.proofs.Numbers.{less}
+use Rattle.laws.proofs.Ints.{sum, neg-up, neg-dn, fits, signed, back}
 use Rattle.entries.specs.Mark.{sampleOf}
-use Rattle.words.proofs.Entries.{ahead, ahead-read, ahead-le, Small, small, small-two, small-four}
+use Rattle.words.proofs.Entries.{ahead, ahead-le, ahead-none}
+use Rattle.words.proofs.Turned.{depth, depth-over, depth-sample, depth-shown, Found, found, larger}
 use Rattle.words.proofs.Words.{in-range, cutWord, cut-lt, square}
 use Rattle.words.proofs.word.square_word.Statement.{statement}
 use Rattle.words.proofs.word.square_word.Tie as tie
 
--- the samples, once all four are read
-module _ (c : tie.After-greater2) where
+-- the largest of the four
+module _ (c : tie.After-greater3) where
   abbrev s : tie.Start
-  s = c .before .before .before .before .before .before
+  s = c .before .before .before .before .before .before .before
+
+  abbrev z : ℤ
+  z = c .greater3 .result
+
+  held : toZ w32 (ofZ w32 z) ≡ z
+  held = back w32 z (c .greater3 .ok)
 
   abbrev ka : ℕ
   ka = ahead (sampleOf (s .args .a))
@@ -32,112 +42,98 @@ module _ (c : tie.After-greater2) where
   abbrev kd : ℕ
   kd = ahead (sampleOf (s .args .d))
 
-  upper : c .before .before .before .greater .result ≡ pos (max ka kb)
-  upper =
-      let x = c .before .before .before .before .before .ahead-in in
-      let y = c .before .before .before .before .ahead-in2 in
-      c .before .before .before .greater .ensures ka kb
-      (ahead-read _ _ (s .fits .a) (s .pre .0 .0) (x .ensures))
-      (ahead-read _ _ (s .fits .b) (s .pre .0 .1) (y .ensures))
-
-  lower : c .greater2 .result ≡ pos (max kc kd)
-  lower =
-      let x = c .before .before .ahead-in3 in
-      let y = c .before .ahead-in4 in
-      c .greater2 .ensures kc kd
-      (ahead-read _ _ (s .fits .c) (s .pre .1 .0 .0) (x .ensures))
-      (ahead-read _ _ (s .fits .d) (s .pre .1 .0 .1) (y .ensures))
-
--- the largest of them
-module _ (c : tie.After-greater3) where
-  abbrev l : tie.After-greater2
-  l = c .before .before .before .before .before
-
   abbrev k : ℕ
-  k = max (max (ka l) (kb l)) (max (kc l) (kd l))
+  k = max (max ka kb) (max kc kd)
 
-  largest : toZ w32 (ofZ w32 (c .greater3 .result)) ≡ pos k
-  largest =
-      let x = l .before .before .before .greater in
-      let y = l .greater2 in
-      back w32 (c .greater3 .result) (c .greater3 .ok)
-      ∙ c .greater3 .ensures (max (ka l) (kb l)) (max (kc l) (kd l)) (back w32 (x .result) (x .ok) ∙ upper l) (back w32 (y .result) (y .ok) ∙ lower l)
+  upper : Found (max ka kb) (c .before .before .before .before .greater .result)
+  upper =
+      let x = c .before .before .before .before .before .before .turned in
+      let y = c .before .before .before .before .before .turned2 in
+      larger (x .result) (y .result) _ (x .ok) (y .ok) (c .before .before .before .before .greater .ensures)
+      (found (s .args .a) (x .result) (s .fits .a) (s .pre .0 .0) (x .ensures))
+      (found (s .args .b) (y .result) (s .fits .b) (s .pre .0 .1) (y .ensures))
 
-  high : k ≤ 9
+  lower : Found (max kc kd) (c .before .greater2 .result)
+  lower =
+      let x = c .before .before .before .turned3 in
+      let y = c .before .before .turned4 in
+      larger (x .result) (y .result) _ (x .ok) (y .ok) (c .before .greater2 .ensures)
+      (found (s .args .c) (x .result) (s .fits .c) (s .pre .1 .0 .0) (x .ensures))
+      (found (s .args .d) (y .result) (s .fits .d) (s .pre .1 .0 .1) (y .ensures))
+
+  first : Found k z
+  first =
+      let x = c .before .before .before .before .greater in
+      let y = c .before .greater2 in
+      larger (x .result) (y .result) z (x .ok) (y .ok) (c .greater3 .ensures) upper lower
+
+  high : k ≤ 14
   high =
-      let t = s l .args in
+      let t = s .args in
       omega (arith, ahead-le (t .a), ahead-le (t .b), ahead-le (t .c), ahead-le (t .d))
 
-  sample : toZ w32 (ofZ w32 (pos 10 -ℤ toZ w32 (ofZ w32 (c .greater3 .result)))) ≡ pos (10 - k)
-  sample = let h = high in rw (largest, less 10 k (omega arith)) (toZ-nat w32 (10 - k) (omega arith))
+  abbrev four : ℤ
+  four = s .args .a +ℤ s .args .b +ℤ (s .args .c +ℤ s .args .d)
+
+  -- where none is marked the four sums are small
+  small : ltZ (pos 1073741824) z ≡ false → (negℤ (pos 1073741824) ≤ℤ four) × (four ≤ℤ pos 1073741824)
+  small t =
+      let a = s .args in
+      let none : k ≡ 0 = omega (arith, ltb-false 0 (depth z) (sym (depth-over z) ∙ t), first .0) in
+      let sa = ahead-none (a .a) (s .pre .0 .0) (omega arith) in
+      let sb = ahead-none (a .b) (s .pre .0 .1) (omega arith) in
+      let sc = ahead-none (a .c) (s .pre .1 .0 .0) (omega arith) in
+      let sd = ahead-none (a .d) (s .pre .1 .0 .1) (omega arith) in
+      let upper-sum = sum (a .a) (a .b) in
+      let lower-sum = sum (a .c) (a .d) in
+      let whole = sum (a .a +ℤ a .b) (a .c +ℤ a .d) in
+      (omega signed, omega signed)
+
+  difference : SFits w32 (pos 1073741839 -ℤ z)
+  difference = fits w32 _ (omega (arith, first .1, first .2, sum (pos 1073741839) (negℤ z), neg-up z, neg-dn z))
+
+total-of-requires : tie.Need-total-of-requires
+total-of-requires c κs = let f = s c .fits in simp (toZ-ofZ, f .a, f .b, f .c, f .d) (rw (held c) (small c))
 
 sub-flagged : tie.Need-sub-flagged
-sub-flagged c = let h = high c in rw (largest c, less 10 (k c) (omega arith)) (record { sfits = omega arith })
-
-add-total : tie.Need-add-total
-add-total c =
-    let a = c .before .sum-in in
-    let b = c .sum-in2 in
-    simp (toZ-ofZ, small _ (a .ensures .1), small _ (b .ensures .1)) (small-two _ _ (a .ensures .1) (b .ensures .1))
-
-add-total-2 : tie.Need-add-total-2
-add-total-2 c =
-    let a = c .before .sum-in3 in
-    let b = c .sum-in4 in
-    simp (toZ-ofZ, small _ (a .ensures .1), small _ (b .ensures .1)) (small-two _ _ (a .ensures .1) (b .ensures .1))
-
--- the four sums
-module _ (c : tie.After-sum-in4) where
-  abbrev sa : ℤ
-  sa = c .before .before .before .sum-in .result
-
-  abbrev sb : ℤ
-  sb = c .before .before .sum-in2 .result
-
-  abbrev sc : ℤ
-  sc = c .before .sum-in3 .result
-
-  abbrev sd : ℤ
-  sd = c .sum-in4 .result
-
-  all : Small sa × Small sb × Small sc × Small sd
-  all = (c .before .before .before .sum-in .ensures .1, c .before .before .sum-in2 .ensures .1, c .before .sum-in3 .ensures .1, c .sum-in4 .ensures .1)
-
-  fit : SFits w32 sa × SFits w32 sb × SFits w32 sc × SFits w32 sd × SFits w32 (sa +ℤ sb) × SFits w32 (sc +ℤ sd) × SFits w32 (sa +ℤ sb +ℤ (sc +ℤ sd))
-  fit = (small sa (all .0), small sb (all .1), small sc (all .2), small sd (all .3), small-two sa sb (all .0) (all .1), small-two sc sd (all .2) (all .3), small-four sa sb sc sd (all .0) (all .1) (all .2) (all .3))
-
-add-total-3 : tie.Need-add-total-3
-add-total-3 c = let f = fit c in simp (toZ-ofZ, f .0, f .1, f .2, f .3, f .4, f .5) (f .6)
+sub-flagged c = rw (held (c .before)) (difference (c .before))
 
 add-cut-off : tie.Need-add-cut-off
-add-cut-off c = omega (arith, in-range (s (l c) .args .truncation) (s (l c) .pre .1 .1))
+add-cut-off c = omega (arith, in-range (s (c .before) .args .truncation) (s (c .before) .pre .1 .1))
 
 cut-off-requires : tie.Need-cut-off-requires
-cut-off-requires c κs = omega (arith, in-range (s (l c) .args .truncation) (s (l c) .pre .1 .1))
+cut-off-requires c κs = omega (arith, in-range (s (c .before) .args .truncation) (s (c .before) .pre .1 .1))
 
-abbrev total : tie.After-cut-off → ℤ
-total c = let p = c .before .before in sa p +ℤ sb p +ℤ (sc p +ℤ sd p)
+-- the total, and its word
+module _ (c : tie.After-cut-off) where
+  abbrev g : tie.After-greater3
+  g = c .before .before
 
-cut : (c : tie.After-cut-off) → c .cut-off .result ≡ cutWord (2 ^ (s (l (c .before)) .args .truncation + 2)) (total c)
-cut c = let f = fit (c .before .before) in simp (toZ-ofZ, f .0, f .1, f .2, f .3, f .4, f .5, f .6) at (c .cut-off .ensures)
+  abbrev total : ℤ
+  total = c .before .total-of .result
+
+  total-is : total ≡ cond (ltb 0 (k g)) (pos 0) (four g)
+  total-is = let f = s g .fits in rw (held g, depth-over (z g), first g .0) at (simp (toZ-ofZ, f .a, f .b, f .c, f .d) at (c .before .total-of .ensures))
+
+  cut : c .cut-off .result ≡ cutWord (2 ^ (s g .args .truncation + 2)) total
+  cut = rw (back w32 total (c .before .total-of .ok)) at (c .cut-off .ensures)
+
+  sample : toZ w32 (ofZ w32 (pos 1073741839 -ℤ toZ w32 (ofZ w32 (z g)))) ≡ pos 1073741839 -ℤ z g
+  sample = rw (held g, toZ-ofZ (difference g))
 
 flagged-requires : tie.Need-flagged-requires
 flagged-requires c κs =
-    let b = c .before in
-    let h = high b in
-    rw (sample b, largest b) (λ t. omega signed, rw (cut c) (cut-lt _ (total c)))
+    let b = g c in
+    rw (sample c, held b) (λ t. rw (depth-sample (z b) t (rw (first b .0) (high b))) (omega signed, omega signed), rw (cut c) (cut-lt _ (total c)))
 
 returns : tie.Need-returns
 returns c =
-    let b = c .before .before in
-    let s = l b .before .before .before .before .before .before in
-    let p = b .before in
-    let ea = simp (toZ-ofZ, s .fits .a) at (p .before .before .before .sum-in .ensures .0) in
-    let eb = simp (toZ-ofZ, s .fits .b) at (p .before .before .sum-in2 .ensures .0) in
-    let ec = simp (toZ-ofZ, s .fits .c) at (p .before .sum-in3 .ensures .0) in
-    let ed = simp (toZ-ofZ, s .fits .d) at (p .sum-in4 .ensures .0) in
-    rw (sample b, largest b, cut (c .before)) at (c .flagged .ensures)
-    ∙ square (s .args .a) (s .args .b) (s .args .c) (s .args .d) (s .args .truncation) (k b) (total (c .before)) (s .pre .0 .0, (s .pre .0 .1, (s .pre .1 .0 .0, (s .pre .1 .0 .1, tt)))) refl (cc)
+    let b = g (c .before) in
+    let a = s b .args in
+    let p = s b .pre in
+    rw (sample (c .before), held b) at (c .flagged .ensures)
+    ∙ depth-shown (z b) (k b) _ _ (first b .0) (high b) (cut (c .before))
+    ∙ square (a .a) (a .b) (a .c) (a .d) (a .truncation) (k b) (total (c .before)) (p .0 .0, (p .0 .1, (p .1 .0 .0, (p .1 .0 .1, tt)))) refl (total-is (c .before))
 
 pub square-word-spec : {M : Type 1} → statement M
 square-word-spec =
@@ -150,13 +146,8 @@ square-word-spec =
     (λ c κs. search needs)
     (λ c κs. search needs)
     (λ c κs. search needs)
-    (λ c κs. search needs)
-    add-total
-    (λ c κs. search needs)
-    (λ c κs. search needs)
-    add-total-2
-    add-total-3
-    (λ c κs. search needs)
+    total-of-requires
+    (λ c. search needs)
     sub-flagged
     add-cut-off
     cut-off-requires
