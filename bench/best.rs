@@ -59,51 +59,22 @@ pub fn check_feed(b: &Board, s: &Settings, fed: usize, readings: &[u16], sums: &
     Ok(())
 }
 
-/// Readings of sample n, onto the entries of their pixels. The size of a weight has four bits, so its products are 16-bit multiplies.
+/// Readings of sample n, onto the entries of their pixels. The size of a weight has four bits, so its products are 16-bit multiplies; the
+/// compiler makes a loop for each sign.
 pub fn sum_part(readings: &[u16], sums: &mut [i32], n: usize, weight: i32, threshold: u16) {
     let mark = MARK + n as i32;
-    let size = weight.unsigned_abs() & 15;
-    let pairs = sums.iter_mut().zip(readings);
-    match (n, weight < 0) {
-        (1, _) => {
-            for (entry, &x) in pairs {
-                let product = (u32::from(x) * size) as i32;
-                let sum = if weight < 0 {
-                    128 - product
-                } else {
-                    128 + product
-                };
-                *entry = if x > threshold { mark } else { sum };
-            }
-        }
-        (_, false) => {
-            for (entry, &x) in pairs {
-                let sum = entry.wrapping_add((u32::from(x) * size) as i32);
-                *entry = stepped(*entry, x > threshold, mark, sum);
-            }
-        }
-        (_, true) => {
-            for (entry, &x) in pairs {
-                let sum = entry.wrapping_sub((u32::from(x) * size) as i32);
-                *entry = stepped(*entry, x > threshold, mark, sum);
-            }
-        }
-    }
-}
-
-/// The reading is tested first: the other order compiles to branches.
-#[inline(always)]
-fn stepped(entry: i32, over: bool, mark: i32, sum: i32) -> i32 {
-    if over {
-        if entry > MARK {
-            entry
-        } else {
+    let size = weight.unsigned_abs() as u16;
+    for (entry, &x) in sums.iter_mut().zip(readings) {
+        let before = if n == 1 { 128 } else { *entry };
+        let product = (u32::from(size) * u32::from(x)) as i32;
+        let sum = before.wrapping_add(if weight < 0 { -product } else { product });
+        // Both are below 32,768, where a signed test is the cheaper one.
+        let next = if x as i16 > threshold as i16 {
             mark
-        }
-    } else if entry > MARK {
-        entry
-    } else {
-        sum
+        } else {
+            sum
+        };
+        *entry = if before > MARK { before } else { next };
     }
 }
 

@@ -1,7 +1,8 @@
-"""Compares the exported frame function with the second program: frames.py LIBRARY SEED COUNT.
+"""Compares the exported functions with the second program: frames.py LIBRARY SEED COUNT.
 
-LIBRARY is the function's shared library. Each case is a whole frame: sides, binning, a record, readings, sums and words as a caller brings
-them, good or bad. Answer, place, sums and words must agree. Prints how many agreed; the exit status is 1 if any did not.
+LIBRARY is their shared library. Each case is a frame: sides, binning, a record, readings, sums and words as a caller brings them, good or bad.
+It is made in one call, and then another ramp is fed in parts and read out. Answers, places, sums and words must agree. Two frames are large.
+Prints how many agreed; the exit status is 1 if any did not.
 """
 
 from __future__ import annotations
@@ -9,14 +10,16 @@ from __future__ import annotations
 import ctypes
 import os
 import sys
-from typing import Callable
+from typing import Optional
 
 sys.path.insert(0, os.path.join(os.path.dirname(os.path.abspath(__file__)), "second"))
 
 from draws import Draws, draw_record  # noqa: E402
 from ramp import Refusal, open_board  # noqa: E402
 
+SIZE = ctypes.c_size_t
 Case = tuple[int, int, bool, list[int], list[int], list[int], list[int]]
+Left = tuple[int, int, list[int], list[int]]
 
 
 def draw_case(draws: Draws) -> Case:
@@ -46,13 +49,14 @@ def draw_case(draws: Draws) -> Case:
     readings = [draws.below(top) for _ in range(count)]
     if wrong == "reading" and readings:
         readings[draws.below(len(readings))] = draws.between(16_384, 65_535)
-    sums = [draws.between(-(2**31), 2**31 - 1) for _ in range(pixels + (draws.between(0, 2) if wrong == "sums" else 0))]
-    word_count = (pixels // 4 if binned else pixels) + (draws.between(0, 2) if wrong == "words" else 0)
+    other = draws.choose((-1, 1, 2))
+    sums = [draws.between(-(2**31), 2**31 - 1) for _ in range(pixels + (other if wrong == "sums" else 0))]
+    word_count = (pixels // 4 if binned else pixels) + (other if wrong == "words" else 0)
     words = [draws.below(65_536) for _ in range(word_count)]
     return width, height, binned, record, readings, sums, words
 
 
-def second(case: Case) -> tuple[int, int, list[int], list[int]]:
+def second(case: Case) -> Left:
     """What the second program makes of a case."""
     width, height, binned, record, readings, sums, words = case
     board = open_board(width, height, binned)
@@ -67,45 +71,109 @@ def second(case: Case) -> tuple[int, int, list[int], list[int]]:
     return 0, 0, new_sums, new_words
 
 
-def exported(library: str) -> Callable[[Case], tuple[int, int, list[int], list[int]]]:
-    """The exported function, on the same cases."""
-    function = ctypes.CDLL(os.path.abspath(library)).ramp_frame
-    function.restype = ctypes.c_uint8
+class Exported:
+    """The exported functions, on plain lists."""
 
-    def run(case: Case) -> tuple[int, int, list[int], list[int]]:
-        width, height, binned, record, readings, sums, words = case
-        size = ctypes.c_size_t
-        place = size(99)
-        record_buffer = (ctypes.c_uint8 * max(1, len(record)))(*record)
-        reading_buffer = (ctypes.c_uint16 * max(1, len(readings)))(*readings)
-        sum_buffer = (ctypes.c_int32 * max(1, len(sums)))(*sums)
-        word_buffer = (ctypes.c_uint16 * max(1, len(words)))(*words)
-        number = function(
-            size(width), size(height), ctypes.c_bool(binned),
-            record_buffer, size(len(record)), reading_buffer, size(len(readings)),
-            sum_buffer, size(len(sums)), word_buffer, size(len(words)), ctypes.byref(place),
-        )
-        return number, place.value, list(sum_buffer)[: len(sums)], list(word_buffer)[: len(words)]
+    def __init__(self, library: str) -> None:
+        self.library = ctypes.CDLL(os.path.abspath(library))
 
-    return run
+    def call(self, name: str, case: tuple, *rest: object) -> tuple[int, int]:
+        """The number and the place that a function answers for sides, binning and a record, and what else it takes."""
+        function = getattr(self.library, name)
+        function.restype = ctypes.c_uint8
+        width, height, binned, record = case
+        place = SIZE(99)
+        arguments: list[object] = [SIZE(width), SIZE(height), ctypes.c_bool(binned), *lent(ctypes.c_uint8, record)]
+        number = function(*arguments, *rest, ctypes.byref(place))
+        return number, place.value
+
+    def frame(self, case: Case) -> Left:
+        """A whole frame."""
+        readings, sums, words = case[4:]
+        some = lent(ctypes.c_uint16, readings)
+        sum_buffer, word_buffer = lent(ctypes.c_int32, sums), lent(ctypes.c_uint16, words)
+        answer = self.call("ramp_frame", case[:4], *some, *sum_buffer, *word_buffer)
+        return (*answer, content(sum_buffer, sums), content(word_buffer, words))
+
+    def feed(self, board: tuple, fed: int, readings: list[int], sums: list[int]) -> tuple[int, int, list[int]]:
+        """Feed alone."""
+        sum_buffer = lent(ctypes.c_int32, sums)
+        answer = self.call("ramp_feed", board, SIZE(fed), *lent(ctypes.c_uint16, readings), *sum_buffer)
+        return (*answer, content(sum_buffer, sums))
+
+    def read_out(self, board: tuple, sums: list[int], words: list[int]) -> tuple[int, int, list[int]]:
+        """Read out alone."""
+        word_buffer = lent(ctypes.c_uint16, words)
+        answer = self.call("ramp_read_out", board, *lent(ctypes.c_int32, sums), *word_buffer)
+        return (*answer, content(word_buffer, words))
+
+
+def lent(kind: type, numbers: list[int]) -> tuple[object, ctypes.c_size_t]:
+    """A buffer with these numbers, and its length."""
+    return (kind * max(1, len(numbers)))(*numbers), SIZE(len(numbers))
+
+
+def content(buffer: tuple, numbers: list[int]) -> list[int]:
+    """What a buffer that was lent for these numbers holds."""
+    return list(buffer[0])[: len(numbers)]
+
+
+def pair(refusal: Optional[Refusal]) -> tuple[int, int]:
+    """The number and the place of an answer."""
+    return (refusal.number, refusal.place) if refusal else (0, 0)
+
+
+def frame_agrees(exported: Exported, case: Case) -> bool:
+    """Whether a whole frame agrees."""
+    expected, found = second(case), exported.frame(case)
+    if expected != found:
+        print(f"{case[:4]}: expected {expected[:2]}, found {found[:2]}")
+    return expected == found
+
+
+def steps_agree(exported: Exported, draws: Draws) -> bool:
+    """Whether a ramp that is fed in parts, now and then with an entry damaged, agrees at each step."""
+    case = draw_case(draws)
+    width, height, binned, record, readings, sums, words = case
+    board = open_board(width, height, binned)
+    if isinstance(board, Refusal) or board.update(record) or board.start():
+        return exported.feed(case[:4], 0, readings, sums)[:2] == second(case)[:2]
+    fed = 0
+    while fed < len(readings):
+        part = readings[fed : fed + draws.between(1, len(readings))]
+        if sums and draws.chance(20):
+            sums[draws.below(len(sums))] = draws.choose((-1, 2**30, 2**30 + 1, 2**30 + 9, 2**31 - 1))
+        expected = list(sums)
+        answer = pair(board.feed(part, expected))
+        if exported.feed(case[:4], fed, part, sums) != (*answer, expected):
+            return False
+        if answer != (0, 0):
+            return True
+        sums, fed = expected, fed + len(part)
+    if board.wanted > 0:
+        return True
+    expected = list(words)
+    answer = pair(board.read_out(sums, expected))
+    return exported.read_out(case[:4], sums, words) == (*answer, expected)
+
+
+def large_case(side: int, samples: int) -> Case:
+    """A large frame, of squares."""
+    draws = Draws(side)
+    row = [draws.below(16_384) for _ in range(4 * side)]
+    readings = (row * (samples * side // 4 + 1))[: samples * side * side]
+    record = [0, 8, samples]
+    return side, side, True, record, readings, [0] * side**2, [0] * (side**2 // 4)
 
 
 def main() -> int:
     library, seed, count = sys.argv[1], int(sys.argv[2]), int(sys.argv[3])
-    draws, run = Draws(seed), exported(library)
-    agreed = 0
-    numbers: dict[int, int] = {}
-    for index in range(count):
-        case = draw_case(draws)
-        expected, found = second(case), run(case)
-        numbers[expected[0]] = numbers.get(expected[0], 0) + 1
-        if expected == found:
-            agreed += 1
-        elif agreed == index:
-            print(f"case {index}: {case[:4]} expected {expected[:2]}, found {found[:2]}")
-    print("answers:", " ".join(f"{number}:{times}" for number, times in sorted(numbers.items())))
-    print(f"{agreed} of {count} frames agree")
-    return agreed != count
+    draws, exported = Draws(seed), Exported(library)
+    frames = [large_case(1_024, 1), large_case(256, 9), *(draw_case(draws) for _ in range(count))]
+    agreed = sum(frame_agrees(exported, case) for case in frames)
+    ramps = sum(steps_agree(exported, draws) for _ in range(count))
+    print(f"{agreed} of {len(frames)} frames agree, and {ramps} of {count} ramps in steps")
+    return agreed != len(frames) or ramps != count
 
 
 if __name__ == "__main__":
