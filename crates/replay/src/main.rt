@@ -7,9 +7,9 @@ use print::text;
 mod buffers;
 mod commands;
 mod numbers;
+mod player;
 mod script;
 mod show;
-mod stage;
 
 // Room for the longest script.
 fn room() -> [u8; 262144]

@@ -7,7 +7,7 @@ use crate::commands::Command;
 use crate::commands::named;
 use crate::commands::takes;
 use crate::numbers::numbers;
-use crate::stage::Stage;
+use crate::player::Player;
 use bytes::scan::find;
 use check::same;
 use checks::Found;
@@ -87,12 +87,12 @@ fn first_malformed(script: &[u8], list: &mut [i64]) -> Found {
 
 // Plays the lines one after the other.
 fn play(script: &[u8], list: &mut [i64], sums: &mut [i32], spare: &mut [i32]) {
-    let mut stage = Stage::first();
+    let mut player = Player::first();
     let mut at = 0;
     while at < script.len() {
         let end = line_end(script, at);
         let command = said(&script[at..end], list);
-        stage = stage.play(command, list, sums, spare);
+        player = player.play(command, list, sums, spare);
         at = end + 1;
     }
 }

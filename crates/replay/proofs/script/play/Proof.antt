@@ -7,10 +7,10 @@ use Rattle.replay.proofs.script.play.Statement.{statement}
 use Rattle.replay.proofs.script.play.Tie as tie
 
 abbrev Inv-loop : tie.InvT-loop
-Inv-loop script list₀ sums₀ spare₀ stage₀ at₀ list sums spare stage at = (length list ≡ length list₀) × (length sums ≡ length sums₀) × (length spare ≡ length spare₀)
+Inv-loop script list₀ sums₀ spare₀ player₀ at₀ list sums spare player at = (length list ≡ length list₀) × (length sums ≡ length sums₀) × (length spare ≡ length spare₀)
 
 abbrev μ-loop : tie.MeasureT-loop
-μ-loop script list₀ sums₀ spare₀ stage₀ at₀ list sums spare stage at = length script - at
+μ-loop script list₀ sums₀ spare₀ player₀ at₀ list sums spare player at = length script - at
 
 pub play-spec : {M : Type 1} → statement M
 play-spec =

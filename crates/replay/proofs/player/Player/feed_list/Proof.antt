@@ -1,10 +1,10 @@
--- `replay::stage::Stage::feed_list` is safe.
+-- `replay::player::Player::feed_list` is safe.
 use mathlib.Core.Path.{sym}
 use native.Mathlib.Omega.{arith}
 use borrow.Author.Needs.{needs}
 use lib.Seq.{length-take-le}
-use Rattle.replay.proofs.stage.Stage.feed_list.Statement.{statement}
-use Rattle.replay.proofs.stage.Stage.feed_list.Tie as tie
+use Rattle.replay.proofs.player.Player.feed_list.Statement.{statement}
+use Rattle.replay.proofs.player.Player.feed_list.Tie as tie
 
 slice-aggregate-feed : tie.Need-slice-aggregate-feed
 slice-aggregate-feed c = sym (length-take-le _ _ (omega arith))

@@ -1,10 +1,10 @@
--- `replay::stage::Stage::update` is safe.
+-- `replay::player::Player::update` is safe.
 use mathlib.Core.Path.{sym}
 use native.Mathlib.Omega.{arith}
 use borrow.Author.Needs.{needs}
 use lib.Seq.{length-take-le}
-use Rattle.replay.proofs.stage.Stage.update.Statement.{statement}
-use Rattle.replay.proofs.stage.Stage.update.Tie as tie
+use Rattle.replay.proofs.player.Player.update.Statement.{statement}
+use Rattle.replay.proofs.player.Player.update.Tie as tie
 
 slice-aggregate-update : tie.Need-slice-aggregate-update
 slice-aggregate-update c = sym (length-take-le _ _ (omega arith))

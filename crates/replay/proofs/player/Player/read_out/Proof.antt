@@ -1,10 +1,10 @@
--- `replay::stage::Stage::read_out` is safe.
+-- `replay::player::Player::read_out` is safe.
 use mathlib.Core.Path.{sym}
 use native.Mathlib.Omega.{arith}
 use borrow.Author.Needs.{needs}
 use lib.Seq.{length-take-le}
-use Rattle.replay.proofs.stage.Stage.read_out.Statement.{statement}
-use Rattle.replay.proofs.stage.Stage.read_out.Tie as tie
+use Rattle.replay.proofs.player.Player.read_out.Statement.{statement}
+use Rattle.replay.proofs.player.Player.read_out.Tie as tie
 
 slice-aggregate-read-out : tie.Need-slice-aggregate-read-out
 slice-aggregate-read-out c = sym (length-take-le _ _ (omega arith))

@@ -17,7 +17,7 @@ use print::meaning;
 use print::text;
 use words::reading::read_word;
 
-pub(crate) struct Stage {
+pub(crate) struct Player {
     board: Board,
     sums: usize,
     spare: usize,
@@ -35,12 +35,12 @@ fn word(word: u16, truncation: u16) {
     text(b"\n");
 }
 
-impl Stage {
+impl Player {
     // No board is open, and the sums are empty.
-    pub(crate) fn first() -> Stage {
+    pub(crate) fn first() -> Player {
         let none = Board::open(0, 0, false);
         let board = none.board;
-        Stage {
+        Player {
             board: board,
             sums: 0,
             spare: 0,
@@ -49,12 +49,12 @@ impl Stage {
     }
 
     // What a call answers, and the board that it leaves.
-    fn after(self, outcome: Outcome) -> Stage {
+    fn after(self, outcome: Outcome) -> Player {
         let answer = outcome.answer;
         let board = outcome.board;
         show::answer(answer);
         show::board(board);
-        Stage {
+        Player {
             board: board,
             sums: self.sums,
             spare: self.spare,
@@ -63,7 +63,7 @@ impl Stage {
     }
 
     // A refused Open leaves the board that was there.
-    fn open(self, width: usize, height: usize, binned: bool) -> Stage {
+    fn open(self, width: usize, height: usize, binned: bool) -> Player {
         let opened = Board::open(width, height, binned);
         let answer = opened.answer;
         let old = self.board;
@@ -76,26 +76,26 @@ impl Stage {
         }
     }
 
-    fn update(self, list: &[i64], bytes: &mut [u8]) -> Stage {
+    fn update(self, list: &[i64], bytes: &mut [u8]) -> Player {
         to_bytes(list, bytes);
         let count = least(natural(item(list, 0)), bytes.len());
         let board = self.board;
         self.after(board.update(&bytes[..count]))
     }
 
-    fn feed(self, readings: &[u16], sums: &mut [i32]) -> Stage {
+    fn feed(self, readings: &[u16], sums: &mut [i32]) -> Player {
         let length = least(self.sums, sums.len());
         let board = self.board;
         self.after(board.feed(readings, &mut sums[..length]))
     }
 
-    fn feed_list(self, list: &[i64], same: bool, readings: &mut [u16], sums: &mut [i32]) -> Stage {
+    fn feed_list(self, list: &[i64], same: bool, readings: &mut [u16], sums: &mut [i32]) -> Player {
         to_readings(list, same, readings);
         let count = least(natural(item(list, 0)), readings.len());
         self.feed(&readings[..count], sums)
     }
 
-    fn read_out(self, count: usize, sums: &[i32], words: &mut [u16]) -> Stage {
+    fn read_out(self, count: usize, sums: &[i32], words: &mut [u16]) -> Player {
         let n = least(count, words.len());
         let length = least(self.sums, sums.len());
         let board = self.board;
@@ -109,7 +109,7 @@ impl Stage {
         next
     }
 
-    fn poke(self, index: usize, entry: i32, sums: &mut [i32]) -> Stage {
+    fn poke(self, index: usize, entry: i32, sums: &mut [i32]) -> Player {
         if index < least(self.sums, sums.len()) {
             sums[index] = entry;
             show::taken();
@@ -119,7 +119,7 @@ impl Stage {
         self
     }
 
-    fn print_sums(self, start: usize, count: usize, sums: &[i32]) -> Stage {
+    fn print_sums(self, start: usize, count: usize, sums: &[i32]) -> Player {
         let length = least(self.sums, sums.len());
         if start > length {
             show::outside();
@@ -134,11 +134,11 @@ impl Stage {
     }
 
     // The sums have another length and one entry everywhere.
-    fn with_sums(self, count: usize, entry: i32, sums: &mut [i32]) -> Stage {
+    fn with_sums(self, count: usize, entry: i32, sums: &mut [i32]) -> Player {
         fill(sums, entry);
         show::taken();
         let board = self.board;
-        Stage {
+        Player {
             board: board,
             sums: count,
             spare: self.spare,
@@ -146,10 +146,10 @@ impl Stage {
         }
     }
 
-    fn swap(self) -> Stage {
+    fn swap(self) -> Player {
         show::taken();
         let board = self.board;
-        Stage {
+        Player {
             board: board,
             sums: self.spare,
             spare: self.sums,
@@ -158,7 +158,7 @@ impl Stage {
     }
 
     // A command with its numbers, on the sums that are lent.
-    fn call(self, command: Command, list: &[i64], sums: &mut [i32]) -> Stage {
+    fn call(self, command: Command, list: &[i64], sums: &mut [i32]) -> Player {
         let board = self.board;
         let first = natural(item(list, 0));
         match command {
@@ -203,7 +203,7 @@ impl Stage {
         list: &[i64],
         sums: &mut [i32],
         spare: &mut [i32],
-    ) -> Stage {
+    ) -> Player {
         if self.swapped {
             self.call(command, list, spare)
         } else {

@@ -1,10 +1,10 @@
--- `replay::stage::Stage::feed` is safe.
+-- `replay::player::Player::feed` is safe.
 use mathlib.Core.Path.{sym}
 use native.Mathlib.Omega.{arith}
 use borrow.Author.Needs.{needs}
 use lib.Seq.{length-take-le}
-use Rattle.replay.proofs.stage.Stage.feed.Statement.{statement}
-use Rattle.replay.proofs.stage.Stage.feed.Tie as tie
+use Rattle.replay.proofs.player.Player.feed.Statement.{statement}
+use Rattle.replay.proofs.player.Player.feed.Tie as tie
 
 slice-aggregate-feed : tie.Need-slice-aggregate-feed
 slice-aggregate-feed c = sym (length-take-le _ _ (omega arith))
