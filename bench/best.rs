@@ -20,9 +20,16 @@ fn possible(entry: i32, k: i32) -> bool {
     (entry >= 128 - span) & (entry <= 128 + span) | (entry > MARK) & (entry <= MARK + k)
 }
 
+/// Whether each entry is possible. With the mark of sample k moved down onto the highest sum one range holds sums and marks; the sign of a difference
+/// tells where an entry lies outside it.
 fn all_possible(sums: &[i32], k: usize) -> bool {
-    let k = k as i32;
-    sums.iter().fold(true, |ok, &entry| ok & possible(entry, k))
+    let (low, high) = (128 - MAX_PRODUCT * k as i32, 128 + MAX_PRODUCT * k as i32);
+    let gap = MARK + k as i32 - high;
+    let outside = sums.iter().fold(0, |signs, &entry| {
+        let moved = if entry > MARK { entry - gap } else { entry };
+        signs | moved.wrapping_sub(low) | high.wrapping_sub(moved)
+    });
+    outside >= 0
 }
 
 /// 14 for the entries from a place on, which have had k samples.
@@ -92,33 +99,35 @@ pub fn sum_up(s: &Settings, fed: usize, readings: &[u16], sums: &mut [i32]) {
     }
 }
 
+/// What is left of a sum: all ones if it is negative.
+#[inline(always)]
+fn cut_off(sum: i32, shift: u32) -> i32 {
+    ((sum >> shift) | (sum >> 31)) & 32_767
+}
+
 fn pixel_words(sums: &[i32], words: &mut [u16], r: u32) {
     for (word, &entry) in words.iter_mut().zip(sums) {
-        let cut = if entry < 0 {
-            32_767
-        } else {
-            entry >> r & 32_767
-        };
         let flag = 32_752 + (entry & 15);
-        *word = (if entry > MARK { flag } else { cut }) as u16;
+        *word = (if entry > MARK {
+            flag
+        } else {
+            cut_off(entry, r)
+        }) as u16;
     }
 }
 
-/// A row of squares: the upper and the lower row of its pixels.
+/// A row of squares: the upper and the lower row of its pixels. With the last four bits turned over, the earliest mark is the largest.
 fn square_words(upper: &[i32], lower: &[i32], words: &mut [u16], r: u32) {
-    let ahead = |entry: i32| if entry > MARK { MARK + 10 - entry } else { 0 };
-    let sum = |entry: i32| if entry > MARK { 0 } else { entry };
     let (upper, lower) = (upper.as_chunks::<2>().0, lower.as_chunks::<2>().0);
     for ((word, &[a, b]), &[c, d]) in words.iter_mut().zip(upper).zip(lower) {
-        let first = ahead(a).max(ahead(b)).max(ahead(c).max(ahead(d)));
-        let total = sum(a) + sum(b) + (sum(c) + sum(d));
-        let cut = if total < 0 {
-            32_767
+        let first = (a ^ 15).max(b ^ 15).max((c ^ 15).max(d ^ 15));
+        let total = a.wrapping_add(b).wrapping_add(c.wrapping_add(d));
+        let flag = 32_767 ^ (first & 15);
+        *word = (if first > MARK {
+            flag
         } else {
-            total >> (r + 2) & 32_767
-        };
-        let flag = 32_752 + (10 - first & 15);
-        *word = (if first > 0 { flag } else { cut }) as u16;
+            cut_off(total, r + 2)
+        }) as u16;
     }
 }
 
