@@ -49,41 +49,41 @@ module _ (s : tie.Start) where
       fits w64 _ (omega (signed, fitted w32 a (f .a), fitted w32 b (f .b), fitted w32 c (f .c), fitted w32 d (f .d), sum a b, sum c d, sum (a +ℤ b) (c +ℤ d)))
 
 add-total : tie.Need-add-total
-add-total c = let r = reads c in rw (r .0, r .1) (upper c)
+add-total s = let r = reads s in rw (r .0, r .1) (upper s)
 
 add-total-2 : tie.Need-add-total-2
-add-total-2 c = let r = reads c in rw (r .2, r .3) (lower c)
+add-total-2 s = let r = reads s in rw (r .2, r .3) (lower s)
 
 add-total-3 : tie.Need-add-total-3
-add-total-3 c = let r = reads c in rw (r .0, r .1, r .2, r .3, toZ-ofZ (upper c), toZ-ofZ (lower c)) (four c)
+add-total-3 s = let r = reads s in rw (r .0, r .1, r .2, r .3, toZ-ofZ (upper s), toZ-ofZ (lower s)) (four s)
 
-short : (c : tie.Else1) → SFits w32 (total (c .before))
-short c = fits w32 _ (omega (signed, c .before .pre (c .if1 .left)))
+short : (e : tie.Else1) → SFits w32 (total (e .before))
+short e = fits w32 _ (omega (signed, e .before .pre (e .if1 .left)))
 
 cast-result : tie.Need-cast-result
-cast-result c =
-    let s = c .before in
+cast-result e =
+    let s = e .before in
     let r = reads s in
-    rw (r .0, r .1, r .2, r .3, toZ-ofZ (upper s), toZ-ofZ (lower s), toZ-ofZ (four s)) (short c)
+    rw (r .0, r .1, r .2, r .3, toZ-ofZ (upper s), toZ-ofZ (lower s), toZ-ofZ (four s)) (short e)
 
 returns : tie.Need-returns
-returns c = rw (c .if1 .taken)
+returns t = rw (t .if1 .taken)
 
 returns-2 : tie.Need-returns-2
-returns-2 c =
-    let s = c .before in
+returns-2 e =
+    let s = e .before in
     let r = reads s in
-    rw (r .0, r .1, r .2, r .3, toZ-ofZ (upper s), toZ-ofZ (lower s), toZ-ofZ (four s), toZ-ofZ (short c)) (sym (ap (λ (t : Bool). cond t (pos 0) (total s)) (c .if1 .left)))
+    rw (r .0, r .1, r .2, r .3, toZ-ofZ (upper s), toZ-ofZ (lower s), toZ-ofZ (four s), toZ-ofZ (short e)) (sym (ap (λ (t : Bool). cond t (pos 0) (total s)) (e .if1 .left)))
 
 pub total-of-spec : {M : Type 1} → statement M
 total-of-spec =
     tie.close
     (tie.spec
-    (λ c. wide (c .args .a) (c .fits .a))
-    (λ c. wide (c .args .b) (c .fits .b))
+    (λ s. wide (s .args .a) (s .fits .a))
+    (λ s. wide (s .args .b) (s .fits .b))
     add-total
-    (λ c. wide (c .args .c) (c .fits .c))
-    (λ c. wide (c .args .d) (c .fits .d))
+    (λ s. wide (s .args .c) (s .fits .c))
+    (λ s. wide (s .args .d) (s .fits .d))
     add-total-2
     add-total-3
     cast-result
