@@ -2,3 +2,4 @@
 pub mod Marks
 pub mod Readings
 pub mod Possible
+pub mod Laws

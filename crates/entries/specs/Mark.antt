@@ -2,13 +2,16 @@
 use Prim.Native.Nat.{ℕ, _+_, _-_}
 use mathlib.Core.Bool.{Bool, cond}
 use mathlib.Core.Option.{Option, none, some}
-use lib.Dec.{ltb}
 use lib.IntN.{ℤ, pos, negsuc}
 use lib.Signed.{leZ}
 
+-- what a mark has above its sample
+abbrev pub markBase : ℕ
+markBase = 1073741824
+
 -- the mark of sample n, n from 1
 abbrev pub mark : ℕ → ℤ
-mark n = pos (1073741824 + n)
+mark n = pos (markBase + n)
 
 -- an entry from the mark of sample 1 on is marked
 abbrev pub marked : ℤ → Bool
@@ -16,5 +19,5 @@ marked e = leZ (mark 1) e
 
 -- the sample of a marked entry; none for any other
 unfoldable pub sampleOf : ℤ → Option ℕ
-sampleOf (pos e) = cond (ltb 1073741824 e) (some (e - 1073741824)) none
+sampleOf (pos e) = cond (marked (pos e)) (some (e - markBase)) none
 sampleOf (negsuc e) = none

@@ -4,6 +4,8 @@ use mathlib.Core.Bool.{Bool, _&&_, _||_}
 use lib.Dec.{leb}
 use lib.IntN.{ℤ, pos, _+ℤ_, _-ℤ_}
 use lib.Signed.{leZ}
+use Rattle.settings.specs.Settings.{maxWeight}
+use Rattle.settings.specs.Covered.{pedestal}
 use Rattle.entries.specs.Mark.{mark}
 
 -- the largest reading
@@ -15,10 +17,10 @@ readingInRange x = leb x maxReading
 
 -- the largest weight times the largest reading: 245,745
 abbrev pub maxProduct : ℕ
-maxProduct = 15 * maxReading
+maxProduct = maxWeight * maxReading
 
 -- at most 245,745 × k from 128, or the mark of one of the samples 1 to k
 unfoldable pub possible : ℕ → ℤ → Bool
 possible k e =
-    leZ (pos 128 -ℤ pos (k * maxProduct)) e && leZ e (pos 128 +ℤ pos (k * maxProduct))
+    leZ (pos pedestal -ℤ pos (k * maxProduct)) e && leZ e (pos pedestal +ℤ pos (k * maxProduct))
     || leZ (mark 1) e && leZ e (mark k)

@@ -72,7 +72,7 @@ pub fn first_impossible(sums: &[i32], k: usize) -> Found
     Found::Nothing
 }
 
-// Whether each reading is in range: none is where all of them together have a higher bit.
+// Whether each reading is in range. The largest is 2^14 - 1, so the bits of all together are at most the largest exactly where each reading is.
 fn all_in_range(readings: &[u16]) -> bool
     ensures { λ r. ⌜ r ≡ every readingInRange (now (readings .entry)) ⌝ }
 {

@@ -2,13 +2,13 @@
 --     refused-last                    what checks that end in a refusal leave
 --     overlongChecks, overlong-answer a record that is too long, with any readings
 --     enough-answer, enough-words     of readings, more than any ramp wants are enough: Feed answers 12 before it looks at them
-use Prim.Native.Nat.{ℕ, _+_, _*_, _^_, _≤_, _<_}
+use Prim.Native.Nat.{ℕ, _+_, _*_, _≤_, _<_}
 use mathlib.Core.Bool.{Bool}
 use mathlib.Core.List.{List, [], _∷_, _++_}
 use mathlib.Core.Path.{_≡_, refl, sym, ap, _∙_}
 use borrow.Author.Tests.{ltb-true, ltb-false, lt-ltb}
 use native.Mathlib.Omega.{arith}
-use lib.Dec.{leb, ltb}
+use lib.Dec.{ltb}
 use lib.IntN.{ℤ}
 use lib.ListN.{length, take}
 use lib.Seq.{take-all, length-take-le}
@@ -18,7 +18,7 @@ use Rattle.checks.specs.declared.Answer.{Answer}
 use Rattle.checks.specs.declared.Answer.the-variants.{Taken, Refused}
 use Rattle.checks.specs.Checks.{refusal, when, first, verdict, byAnswer}
 use Rattle.checks.proofs.Laws.{verdict-append}
-use Rattle.settings.specs.Record.{mapOf, fieldCount}
+use Rattle.settings.specs.Record.{mapOf, unknownBit}
 use Rattle.settings.proofs.Overlong.{overlong}
 use Rattle.board.specs.declared.Board.{Board}
 use Rattle.board.specs.Board.{area, wanted, unsound, opened}
@@ -65,7 +65,7 @@ ends (Refused s ∷ l) r rest = refl
 
 -- the checks up to 4 of a record that is too long
 abbrev pub overlongChecks : ℕ → ℕ → Bool → ℕ → List Answer
-overlongChecks w h binned map = openOf w h binned .answer ∷ unsound (openOf w h binned .board) ∷ when (leb (2 ^ fieldCount) map) 3 ∷ []
+overlongChecks w h binned map = openOf w h binned .answer ∷ unsound (openOf w h binned .board) ∷ when (unknownBit map) 3 ∷ []
 
 module _ (w h : ℕ) (binned : Bool) (bytes : List ℕ) (sums : List ℤ) (output : List ℕ) where
   -- the checks up to Feed's 12
@@ -87,7 +87,7 @@ module _ (w h : ℕ) (binned : Bool) (bytes : List ℕ) (sums : List ℤ) (outpu
   unfolding frameWords
   crowded-words xs k = rw (crowded-answer xs k) (refused-last before (refusal 12) _ _)
 
-  update-overlong : 26 < length bytes → updated w h binned bytes .answer ≡ verdict (unsound (openOf w h binned .board) ∷ when (leb (2 ^ fieldCount) (mapOf bytes)) 3 ∷ Refused (refusal 4) ∷ [])
+  update-overlong : 26 < length bytes → updated w h binned bytes .answer ≡ verdict (unsound (openOf w h binned .board) ∷ when (unknownBit (mapOf bytes)) 3 ∷ Refused (refusal 4) ∷ [])
   unfolding updateOf verdict
   update-overlong k = ap (first (unsound (openOf w h binned .board))) (overlong bytes k)
 
@@ -95,7 +95,7 @@ module _ (w h : ℕ) (binned : Bool) (bytes : List ℕ) (sums : List ℤ) (outpu
   unfolding frameAnswer verdict
   overlong-answer k xs =
       rw (update-overlong k)
-      (ap (first (openOf w h binned .answer)) (ends (unsound (openOf w h binned .board) ∷ when (leb (2 ^ fieldCount) (mapOf bytes)) 3 ∷ []) (refusal 4) _))
+      (ap (first (openOf w h binned .answer)) (ends (unsound (openOf w h binned .board) ∷ when (unknownBit (mapOf bytes)) 3 ∷ []) (refusal 4) _))
 
   module _ (n : ℕ) (many : 9 * (w * h) < n) (xs : List ℕ) where
     -- the first n are all, or too many

@@ -3,15 +3,18 @@
 --     weight-below                 a weight's field is one of nine
 --     field-apart                  two bits have two fields
 --     width-small, place-small     where a field stands is a small number
-use Prim.Native.Nat.{ℕ, zero, suc, _+_, _*_, _≤_, _<_}
+--     high-bits                    a map has nothing above its fields' bits exactly where none of the bits 12 to 15 stands
+use Prim.Native.Nat.{ℕ, zero, suc, _+_, _*_, _/_, _%_, _^_, _≤_, _<_}
+use mathlib.Core.Bool.{not, _||_}
 use mathlib.Core.Path.{_≡_, refl, sym, ap, subst, _∙_}
 use native.Mathlib.Omega.{arith}
-use borrow.Author.Tests.{ltb-true, ltb-false, eqb-true, eqb-false}
+use borrow.Author.Tests.{ltb-true, ltb-false, eqb-true, eqb-false, eq-eqb, ne-eqb}
 use lib.Dec.{ltb, eqb}
+use Rattle.laws.specs.Lists.{anyOf}
 use Rattle.laws.proofs.Tests.{cases}
 use Rattle.settings.specs.declared.Field.{Field}
 use Rattle.settings.specs.declared.Field.the-variants.{Weight, Threshold, Truncation, Samples}
-use Rattle.settings.specs.Record.{stands, fieldCount, fieldOf, widthOf, placeOf}
+use Rattle.settings.specs.Record.{stands, fieldCount, unknownBit, fieldOf, widthOf, placeOf}
 
 pub field-cases : (P : Field → Type 0) (bit : ℕ) → (bit < 9 → P (Weight bit)) → (bit ≡ 9 → P Threshold) → (bit ≡ 10 → P Truncation) → (10 < bit → P Samples) → P (fieldOf bit)
 unfolding fieldOf
@@ -59,3 +62,21 @@ place-small map (suc bit) =
     cases (stands map bit)
     (λ e. rw e (omega (arith, place-small map bit, width-small (fieldOf bit))))
     (λ e. rw e (omega (arith, place-small map bit)))
+
+-- a number is not 0 where its lowest bit stands or the rest of it is not 0
+lowest-or-more : (n : ℕ) → not (eqb n 0) ≡ eqb (n % 2) 1 || not (eqb (n / 2) 0)
+lowest-or-more n =
+    cases (eqb (n % 2) 1)
+    (λ e. rw (e, ne-eqb n 0 (λ z. omega (arith, eqb-true (n % 2) 1 e))))
+    (λ e. cases (eqb (n / 2) 0)
+    (λ f. rw (e, f, eq-eqb n 0 (omega (arith, eqb-false (n % 2) 1 e, eqb-true (n / 2) 0 f))))
+    (λ f. rw (e, f, ne-eqb n 0 (λ z. eqb-false (n / 2) 0 f (omega arith)))))
+
+pub high-bits : (map : ℕ) → map < 2 ^ 16 → not (eqb (map / 2 ^ fieldCount) 0) ≡ unknownBit map
+unfolding anyOf stands
+high-bits map h =
+    let a : map / 2 ^ 12 / 2 ≡ map / 2 ^ 13 = omega arith in
+    let b : map / 2 ^ 13 / 2 ≡ map / 2 ^ 14 = omega arith in
+    let c : map / 2 ^ 14 / 2 ≡ map / 2 ^ 15 = omega arith in
+    let d : map / 2 ^ 15 / 2 ≡ 0 = omega arith in
+    rw (lowest-or-more (map / 2 ^ 12), a, lowest-or-more (map / 2 ^ 13), b, lowest-or-more (map / 2 ^ 14), c, lowest-or-more (map / 2 ^ 15), d)

@@ -8,7 +8,7 @@ use lib.ListN.{length, getD}
 use Rattle.laws.proofs.Tests.{and-true}
 use Rattle.laws.proofs.Every.{every-all, every-each}
 use Rattle.settings.specs.declared.Settings.{Settings}
-use Rattle.settings.specs.Settings.{weightInRange, maxThreshold, inRange}
+use Rattle.settings.specs.Settings.{weightInRange, maxThreshold, maxSamples, inRange}
 
 pub record InRange (s : Settings) : Type 0 where
   pub nine : length (s .weights) ≡ 9
@@ -17,7 +17,7 @@ pub record InRange (s : Settings) : Type 0 where
   pub truncation-low : 1 ≤ s .truncation
   pub truncation-high : s .truncation ≤ 3
   pub samples-low : 1 ≤ s .samples
-  pub samples-high : s .samples ≤ 9
+  pub samples-high : s .samples ≤ maxSamples
 
 pub in-range-parts : (s : Settings) → inRange s ≡ true → InRange s
 unfolding inRange

@@ -9,7 +9,7 @@ use lib.Dec.{leb, ltb, eqb}
 use lib.IntN.{ℤ, pos, negsuc}
 use lib.ListN.{length, getD, List·getD-append}
 use lib.Seq.{ext-getD}
-use Rattle.laws.specs.Lists.{each, every}
+use Rattle.laws.specs.Lists.{each, every, anyOf}
 use Rattle.laws.proofs.Tests.{and-true, true-and}
 use Rattle.laws.proofs.Each.{each-length, each-at}
 use Rattle.laws.proofs.Elements.{every-append, every-made, table}
@@ -133,7 +133,7 @@ module _ (s : Settings) (p : InRange s) where
   none-refused = verdict-none (fieldCheck bytes) fieldCount (λ bit h. rw (every-stands bit h) (right bit h .fine))
 
   is-taken : verdict (updateChecks bytes) ≡ Taken
-  unfolding verdict each placeOf stands fieldOf
+  unfolding verdict each anyOf placeOf stands fieldOf
   is-taken = none-refused
 
   whole : (t : Settings) → length (t .weights) ≡ 9 → updateOf t bytes ≡ taken s

@@ -6,6 +6,10 @@ use lib.IntN.{ℤ, pos, negsuc}
 use Rattle.settings.specs.declared.Settings.{Settings}
 use Rattle.settings.specs.Settings.{weightAt}
 
+-- what every sum starts from
+abbrev pub pedestal : ℕ
+pedestal = 128
+
 -- a positive weight, or 0 for any other
 abbrev pub positivePart : ℤ → ℕ
 positivePart (pos w) = w
@@ -18,7 +22,7 @@ positives s (suc n) = positives s n + positivePart (weightAt s (suc n))
 
 -- 128 + P × T: no readings at or below the threshold have a larger sum
 abbrev pub reach : Settings → ℕ
-reach s = 128 + positives s (s .samples) * s .threshold
+reach s = pedestal + positives s (s .samples) * s .threshold
 
 -- the first sum that no ordinary word stands for: 32,752 × 2^r
 abbrev pub ceiling : ℕ → ℕ

@@ -16,7 +16,7 @@ use Rattle.settings.specs.declared.Updated.{Updated}
 use Rattle.settings.specs.Settings.{defaults, inRange}
 use Rattle.settings.specs.Record.{stands, mapOf, fieldCount, fieldOf, numberOf, weightOf}
 use Rattle.settings.specs.Update.{updateOf}
-use Rattle.settings.specs.Covered.{isCovered}
+use Rattle.settings.specs.Covered.{reach, ceiling, isCovered}
 
 -- what settings hold in a field
 abbrev pub valueIn : Field → Settings → ℤ
@@ -57,7 +57,9 @@ pub record SettingsLaws : Type 0 where
   pub known-record : (s : Settings) → updateOf s (0x00 ∷ 0x06 ∷ 0x1F ∷ 0x33 ∷ 0x03 ∷ []) ≡ taken (withBoth 13087 3 s)
   -- weight bytes 20, 31 and 16 are −4, −15 and 0
   pub known-weights : (weightOf 20 ≡ negℤ (pos 4)) × (weightOf 31 ≡ negℤ (pos 15)) × (weightOf 16 ≡ pos 0)
-  -- the defaults with threshold 13,087 are covered, with 13,088 not
+  -- the defaults with threshold 13,087 give 130,998 against 131,008, with 13,088 they give 131,008
+  pub known-reach : (reach (withBoth 13087 2 defaults) ≡ 130998) × (reach (withBoth 13088 2 defaults) ≡ 131008) × (ceiling 2 ≡ 131008)
+  -- the first are covered, the second not
   pub known-covered : (isCovered (withBoth 13087 2 defaults) ≡ true) × (isCovered (withBoth 13088 2 defaults) ≡ false)
   -- all settings in range come of one record of bytes on any others
   pub reachable : (s t : Settings) → inRange s ≡ true → length (t .weights) ≡ 9

@@ -18,10 +18,15 @@ defaults = record {
   samples = 9;
 }
 
--- a weight has a magnitude of four bits: −15 to 15
-abbrev pub weightInRange : ℤ → Bool
-weightInRange w = leZ (negℤ (pos 15)) w && leZ w (pos 15)
+-- the largest weight: a magnitude has four bits
+abbrev pub maxWeight : ℕ
+maxWeight = 15
 
+-- a weight is −15 to 15
+abbrev pub weightInRange : ℤ → Bool
+weightInRange w = leZ (negℤ (pos maxWeight)) w && leZ w (pos maxWeight)
+
+-- the largest threshold
 abbrev pub maxThreshold : ℕ
 maxThreshold = 16383
 
@@ -32,13 +37,17 @@ thresholdInRange t = leb t maxThreshold
 abbrev pub truncationInRange : ℕ → Bool
 truncationInRange r = leb 1 r && leb r 3
 
+-- the largest N: there are nine weights, one for each sample
+abbrev pub maxSamples : ℕ
+maxSamples = 9
+
 -- N is 1 to 9
 abbrev pub samplesInRange : ℕ → Bool
-samplesInRange n = leb 1 n && leb n 9
+samplesInRange n = leb 1 n && leb n maxSamples
 
--- there are nine weights
+-- nine weights, each in range
 abbrev pub weightsInRange : List ℤ → Bool
-weightsInRange ws = eqb (length ws) 9 && every weightInRange ws
+weightsInRange ws = eqb (length ws) maxSamples && every weightInRange ws
 
 -- settings within Update's ranges
 unfoldable pub inRange : Settings → Bool

@@ -1,8 +1,8 @@
 -- Update: its checks, the settings that would result, and its outcome.
-use Prim.Native.Nat.{ℕ, zero, suc, _^_}
+use Prim.Native.Nat.{ℕ, zero, suc}
 use mathlib.Core.Bool.{cond, not}
 use mathlib.Core.List.{List, _∷_}
-use lib.Dec.{leb, ltb, eqb}
+use lib.Dec.{ltb, eqb}
 use lib.ListN.{length, set}
 use Rattle.laws.specs.Lists.{each}
 use Rattle.checks.specs.declared.Answer.{Answer}
@@ -13,7 +13,7 @@ use Rattle.settings.specs.declared.Field.the-variants.{Weight, Threshold
 use Rattle.settings.specs.declared.Settings.{Settings}
 use Rattle.settings.specs.declared.Updated.{Updated}
 use Rattle.settings.specs.Settings.{thresholdInRange, truncationInRange, samplesInRange}
-use Rattle.settings.specs.Record.{stands, mapOf, fieldCount, fieldOf, placeOf, numberOf, weightOf}
+use Rattle.settings.specs.Record.{stands, mapOf, fieldCount, unknownBit, fieldOf, placeOf, numberOf, weightOf}
 
 -- 5: a weight byte above 31. 6: a threshold above 16,383. 7: an r outside 1 to 3. 8: an N outside 1 to 9
 abbrev pub checkOf : Field → ℕ → Answer
@@ -26,12 +26,11 @@ checkOf Samples v = when (not (samplesInRange v)) 8
 abbrev pub fieldCheck : List ℕ → ℕ → Answer
 fieldCheck bytes bit = cond (stands (mapOf bytes) bit) (checkOf (fieldOf bit) (numberOf bytes bit)) Taken
 
--- 2: under two bytes. 3: one of the map bits 12 to 15 stands, so that the map is 2^12 or more. 4: not the length that the map calls for. Then the checks of the
--- fields, from the lowest bit up
+-- 2: under two bytes. 3: a map bit from 12 to 15 stands. 4: not the length that the map calls for. Then the checks of the fields, from the lowest bit up
 abbrev pub updateChecks : List ℕ → List Answer
 updateChecks bytes =
     when (ltb (length bytes) 2) 2
-    ∷ when (leb (2 ^ fieldCount) (mapOf bytes)) 3
+    ∷ when (unknownBit (mapOf bytes)) 3
     ∷ when (not (eqb (length bytes) (placeOf (mapOf bytes) fieldCount))) 4
     ∷ each (fieldCheck bytes) fieldCount
 

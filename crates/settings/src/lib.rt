@@ -9,9 +9,13 @@ pub mod record;
 mod update;
 
 pub struct Settings {
+    // The weights of samples 1 to 9.
     pub weights: [i32; 9],
+    // A reading above it marks its entry.
     pub threshold: u16,
+    // r: a word is the sum divided by 2^r.
     pub truncation: u16,
+    // N: how many samples a ramp has.
     pub samples: u16,
 }
 
@@ -30,6 +34,7 @@ pub struct Updated {
 }
 
 impl Settings {
+    // The defaults: -4 to 4 for the weights, a threshold that marks nothing, r = 2 and N = 9.
     pub const WEIGHTS: [i32; 9] = [-4, -3, -2, -1, 0, 1, 2, 3, 4];
 
     pub const THRESHOLD: u16 = 16383;

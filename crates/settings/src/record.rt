@@ -4,7 +4,7 @@ ghost use mathlib.Core.Bool.{cond};
 ghost use Prim.Native.Nat.{_+_, _<_};
 ghost use lib.ListN.{getD};
 ghost use Rattle.settings.specs.Record as Def;
-ghost use Rattle.settings.specs.Record.{pairAt, widthOf, placeOf, numberAt, weightOf};
+ghost use Rattle.settings.specs.Record.{pairAt, widthOf, numberAt, weightOf};
 use crate::Field;
 
 // How many fields there are: bits 0 to 11 of the map.
@@ -27,10 +27,13 @@ pub fn byte(bytes: &[u8], at: usize) -> u8
 
 // The two bytes at a place, low byte first.
 pub fn pair(bytes: &[u8], at: usize) -> u16
-    requires { ⌜ at < 1000000 ⌝ }
     ensures { λ r. ⌜ r ≡ pairAt (now (bytes .entry)) at ⌝ }
 {
-    byte(bytes, at) as u16 + 256 * byte(bytes, at + 1) as u16
+    if at < bytes.len() {
+        byte(bytes, at) as u16 + 256 * byte(bytes, at + 1) as u16
+    } else {
+        0
+    }
 }
 
 // The field of a bit.
@@ -72,23 +75,8 @@ pub(crate) fn next_place(map: u16, bit: usize, at: usize) -> usize
     }
 }
 
-// Where the field of a bit starts.
-pub(crate) fn place_of(map: u16, bit: usize) -> usize
-    requires { ⌜ bit < 16 ⌝ }
-    ensures { λ r. ⌜ r ≡ placeOf map bit ⌝ }
-{
-    let mut at: usize = 2;
-    let mut i: usize = 0;
-    while i < bit {
-        at = next_place(map, i, at);
-        i += 1;
-    }
-    at
-}
-
 // A field's number at a place.
 pub(crate) fn number_at(field: Field, bytes: &[u8], at: usize) -> u16
-    requires { ⌜ at < 1000 ⌝ }
     ensures { λ r. ⌜ r ≡ numberAt field (now (bytes .entry)) at ⌝ }
 {
     match field {

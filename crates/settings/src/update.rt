@@ -2,8 +2,8 @@
 ghost use mathlib.Core.Path.{_≡_};
 ghost use Rattle.laws.specs.Lists.{each};
 ghost use Rattle.checks.specs.Checks.{verdict};
-ghost use Rattle.settings.specs.Record.{fieldCount, fieldOf};
-ghost use Rattle.settings.specs.Update.{checkOf, fieldCheck, updateChecks, withField, resulting, updateOf};
+ghost use Rattle.settings.specs.Record.{mapOf, fieldCount, fieldOf, placeOf};
+ghost use Rattle.settings.specs.Update.{checkOf, fieldCheck, withField, resulting, updateOf};
 use crate::Field;
 use crate::Settings;
 use crate::Updated;
@@ -15,7 +15,6 @@ use crate::record::field_of;
 use crate::record::next_place;
 use crate::record::number_at;
 use crate::record::pair;
-use crate::record::place_of;
 use crate::record::stands;
 use crate::record::weight_of;
 use checks::Answer;
@@ -32,33 +31,11 @@ fn check(field: Field, number: u16) -> Answer
     }
 }
 
-// The fields in bit order, the first bad one.
-fn check_fields(bytes: &[u8]) -> Answer
-    ensures { λ r. ⌜ r ≡ verdict (each (fieldCheck (now (bytes .entry))) fieldCount) ⌝ }
-{
-    let map = pair(bytes, 0);
-    let mut answer = Answer::Taken;
-    let mut at: usize = 2;
-    let mut bit: usize = 0;
-    while bit < FIELDS {
-        if stands(map, bit) {
-            let field = field_of(bit);
-            answer = answer.then(check(field, number_at(field, bytes, at)));
-        }
-        at = next_place(map, bit, at);
-        bit += 1;
-    }
-    answer
-}
-
-fn check_record(bytes: &[u8]) -> Answer
-    ensures { λ r. ⌜ r ≡ verdict (updateChecks (now (bytes .entry))) ⌝ }
-{
-    let map = pair(bytes, 0);
-    let short = Answer::when(bytes.len() < 2, checks::SHORT_RECORD);
-    let unknown = Answer::when(map >> FIELDS != 0, checks::UNKNOWN_FIELD);
-    let length = Answer::when(bytes.len() != place_of(map, FIELDS), checks::RECORD_LENGTH);
-    short.then(unknown.then(length.then(check_fields(bytes))))
+// What the fields of a record say: the answer of the first bad one, the settings with each of them written, and where they end.
+struct Decoded {
+    answer: Answer,
+    settings: Settings,
+    end: usize,
 }
 
 impl Settings {
@@ -85,30 +62,45 @@ impl Settings {
         s
     }
 
-    // The settings that would result, whatever the checks say: each field whose bit stands is written.
-    fn with_fields(self, bytes: &[u8]) -> Settings
-        ensures { λ r. ⌜ r ≡ resulting (now (bytes .entry)) fieldCount self ⌝ }
+    // The fields in bit order, each that stands in the map checked and written, whatever the checks say.
+    fn decode(self, bytes: &[u8]) -> Decoded
+        ensures answer { λ r. ⌜ r .answer ≡ verdict (each (fieldCheck (now (bytes .entry))) fieldCount) ⌝ }
+        ensures settings { λ r. ⌜ r .settings ≡ resulting (now (bytes .entry)) fieldCount self ⌝ }
+        ensures end { λ r. ⌜ r .end ≡ placeOf (mapOf (now (bytes .entry))) fieldCount ⌝ }
     {
         let map = pair(bytes, 0);
-        let mut s = self;
+        let mut answer = Answer::Taken;
+        let mut settings = self;
         let mut at: usize = 2;
         let mut bit: usize = 0;
         while bit < FIELDS {
             if stands(map, bit) {
-                s = s.with_field(bit, number_at(field_of(bit), bytes, at));
+                let number = number_at(field_of(bit), bytes, at);
+                answer = answer.then(check(field_of(bit), number));
+                settings = settings.with_field(bit, number);
             }
             at = next_place(map, bit, at);
             bit += 1;
         }
-        s
+        Decoded {
+            answer: answer,
+            settings: settings,
+            end: at,
+        }
     }
 
     // Update: the record is taken whole, or refused and nothing changes.
     pub fn update(self, bytes: &[u8]) -> Updated
         ensures { λ r. ⌜ r ≡ updateOf self (now (bytes .entry)) ⌝ }
     {
-        let answer = check_record(bytes);
-        let next = self.with_fields(bytes);
+        let map = pair(bytes, 0);
+        let decoded = self.decode(bytes);
+        let next = decoded.settings;
+        let fields = decoded.answer;
+        let short = Answer::when(bytes.len() < 2, checks::SHORT_RECORD);
+        let unknown = Answer::when(map >> FIELDS != 0, checks::UNKNOWN_FIELD);
+        let length = Answer::when(bytes.len() != decoded.end, checks::RECORD_LENGTH);
+        let answer = short.then(unknown.then(length.then(fields)));
         match answer {
             Answer::Taken => Updated {
                 answer: answer,
