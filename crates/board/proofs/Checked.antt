@@ -24,11 +24,10 @@ use Rattle.checks.specs.Checks.{found, verdict}
 use Rattle.checks.proofs.Laws.{verdict-append, both-taken, when-taken, found-taken}
 use Rattle.checks.proofs.Search.{found-none, found-every}
 use Rattle.entries.specs.Possible.{readingInRange, possible}
-use Rattle.ramp.specs.Feed.{Feedable}
-use Rattle.ramp.specs.Stale.{staleAt}
-use Rattle.ramp.proofs.Intervals.{stale-ready}
-use Rattle.words.specs.Word.{readable}
-use Rattle.words.specs.Frame.{wordCount, Readable}
+use Rattle.ramp.specs.Written.{notPossibleAt}
+use Rattle.ramp.specs.Requires.{Feedable}
+use Rattle.words.specs.Frame.{wordCount}
+use Rattle.words.specs.Requires.{readable, Readable}
 use Rattle.words.proofs.Entries.{possible-readable}
 use Rattle.board.specs.declared.Board.{Board}
 use Rattle.board.specs.declared.Coverage.the-variants.{Covered, Uncovered}
@@ -68,7 +67,7 @@ pub record FeedTaken (b : Board) (xs : List ℕ) (sums : List ℤ) : Type 0 wher
   pub ramp : RampTaken b (length sums)
   pub room : b .fed + length xs ≤ wanted b
   pub readings : every readingInRange xs ≡ true
-  pub stale : firstPlace (length sums) (staleAt (pos 0) possible (length sums) (b .fed) (length xs) sums) ≡ Nothing
+  pub entries : firstPlace (length sums) (notPossibleAt (pos 0) possible (length sums) (b .fed) (length xs) sums) ≡ Nothing
 
 pub feed-taken : (b : Board) (xs : List ℕ) (sums : List ℤ) → verdict (feedChecks b xs sums) ≡ Taken → FeedTaken b xs sums
 unfolding verdict
@@ -81,13 +80,13 @@ feed-taken b xs sums e =
       ramp = ramp-taken b (length sums) (a .0);
       room = ltb-false _ _ (when-taken _ 12 (p .0));
       readings = none-fails readingInRange xs 0 13 (q .0);
-      stale = found-taken _ 14 (r .0);
+      entries = found-taken _ 14 (r .0);
     }
 
 pub feed-passes : (b : Board) (xs : List ℕ) (sums : List ℤ) → FeedTaken b xs sums → verdict (feedChecks b xs sums) ≡ Taken
 unfolding verdict
 feed-passes b xs sums t =
-    rw (verdict-append (rampChecks b (length sums)), ramp-passes b (length sums) (t .ramp), le-ltb _ _ (t .room), found-every readingInRange xs 0 (t .readings), t .stale)
+    rw (verdict-append (rampChecks b (length sums)), ramp-passes b (length sums) (t .ramp), le-ltb _ _ (t .room), found-every readingInRange xs 0 (t .readings), t .entries)
 
 pub feedable : (b : Board) (xs : List ℕ) (sums : List ℤ) → FeedTaken b xs sums → Feedable (b .«in_force») (b .fed) xs sums
 feedable b xs sums t =
@@ -100,7 +99,7 @@ feedable b xs sums t =
       settings = in-range-whole _ (s .in-force);
       room = rw l (omega (arith, t .room, wanted-nine b s));
       readings = t .readings;
-      entries = stale-ready (pos 0) possible (length sums) (b .fed) (length xs) sums (rw l (z .some)) (t .stale);
+      entries = t .entries;
     }
 
 pub record ReadOutTaken (b : Board) (sums : List ℤ) (outputLength : ℕ) : Type 0 where

@@ -1,12 +1,14 @@
 -- The laws of the operations: what a taken one leaves is sound, and what each keeps.
-use Prim.Native.Nat.{ℕ}
+use Prim.Native.Nat.{ℕ, _<_}
 use mathlib.Core.Bool.{Bool, true, false, not}
-use mathlib.Core.List.{List, _∷_}
+use mathlib.Core.List.{List, [], _∷_}
 use mathlib.Core.Path.{_≡_, refl, sym, _∙_}
 use borrow.Author.Tests.{not-false}
+use native.Mathlib.Nat.{add-zero}
 use native.Mathlib.Omega.{arith}
-use lib.IntN.{ℤ}
+use lib.IntN.{ℤ, pos}
 use lib.ListN.{length}
+use Rattle.laws.specs.Lists.{every}
 use Rattle.settings.specs.declared.Settings.{Settings}
 use Rattle.settings.specs.Record.{fieldCount}
 use Rattle.settings.specs.Update as Record
@@ -17,14 +19,18 @@ use Rattle.checks.specs.declared.Answer.{Answer}
 use Rattle.checks.specs.declared.Answer.the-variants.{Taken, Refused}
 use Rattle.checks.specs.Checks.{when, verdict, byAnswer}
 use Rattle.checks.proofs.Laws.{first-taken, both-taken, when-taken}
+use Rattle.entries.specs.Possible.{possible}
+use Rattle.ramp.specs.Feed.{feedAll}
+use Rattle.ramp.proofs.Intervals.{written-none}
 use Rattle.board.specs.declared.Board.{Board}
 use Rattle.board.specs.Board.{sidesTaken, sound, unsound, opened, withWaiting, begun, extended, ended}
 use Rattle.board.specs.Open.{openOf}
 use Rattle.board.specs.Update.{updateChecks, updateOf}
-use Rattle.board.specs.Ramp.{startChecks, startOf, feedChecks, feedOf, readOutChecks, readOutOf, dropChecks, dropOf}
-use Rattle.board.specs.Laws.{BoardLaws}
-use Rattle.board.proofs.Soundness.{Sound, sound-parts, sound-whole}
-use Rattle.board.proofs.Checked.{feed-taken}
+use Rattle.board.specs.Ramp.{startChecks, startOf, rampChecks, feedChecks, feedOf, fedSums, readOutChecks, readOutOf, readOutWords, dropChecks, dropOf}
+use Rattle.board.specs.Covered.{coverageOf}
+use Rattle.board.specs.Laws.{SameSides, SameSettings, Gives99, BoardLaws}
+use Rattle.board.proofs.Soundness.{Sound, sound-parts, sound-whole, sides-of}
+use Rattle.board.proofs.Checked.{ramp-taken, feed-taken, feed-passes}
 
 -- ---- soundness
 
@@ -96,11 +102,16 @@ module _ (w h : ℕ) (binned : Bool) where
 
 -- ---- what each keeps
 
--- a change that leaves both settings alone
-both-kept : (a : Answer) (old new : Board) → (new .waiting ≡ old .waiting) × (new .«in_force» ≡ old .«in_force»)
-    → (byAnswer a new old .waiting ≡ old .waiting) × (byAnswer a new old .«in_force» ≡ old .«in_force»)
-both-kept Taken old new e = e
-both-kept (Refused r) old new e = (refl, refl)
+-- what holds of the board that a taken operation leaves, and of the board as it was
+kept : (P : Board → Type 0) (a : Answer) (old new : Board) → P old → P new → P (byAnswer a new old)
+kept P Taken old new o n = n
+kept P (Refused r) old new o n = o
+
+same-settings : (a : Answer) (old new : Board) → SameSettings old new → SameSettings old (byAnswer a new old)
+same-settings a old new e = kept (SameSettings old) a old new (refl, refl) e
+
+same-sides : (a : Answer) (old new : Board) → SameSides old new → SameSides old (byAnswer a new old)
+same-sides a old new e = kept (SameSides old) a old new (refl, refl, refl) e
 
 update-waiting : (a : Answer) (b : Board) (t : Settings) → byAnswer a (withWaiting t b) b ≡ withWaiting (byAnswer a (withWaiting t b) b .waiting) b
 update-waiting Taken b t = refl
@@ -109,19 +120,62 @@ update-waiting (Refused r) b t = refl
 start-in-force : (a : Answer) (b : Board) → a ≡ Taken → byAnswer a (begun b) b .«in_force» ≡ b .waiting
 start-in-force a b e = rw e
 
+start-refused : (a : Answer) (b : Board) (r : Refusal) → a ≡ Refused r → byAnswer a (begun b) b ≡ b
+start-refused a b r e = rw e
+
+-- ---- 99, and the empty Feed
+
+unsound-99 : (b : Board) → sound b ≡ false → Gives99 b
+unfolding updateOf startOf feedOf fedSums readOutOf readOutWords dropOf coverageOf verdict
+unsound-99 b s = record {
+  update = λ bytes. rw s;
+  start = rw s;
+  feed = λ xs sums. (rw s, rw s);
+  read-out = λ sums output. (rw s, rw s);
+  drop = rw s;
+  covered = rw s;
+}
+
+empty-feed : (b : Board) (sums : List ℤ) → verdict (rampChecks b (length sums)) ≡ Taken
+    → (feedOf b [] sums ≡ record { answer = Taken; board = b }) × (fedSums b [] sums ≡ sums)
+unfolding feedOf fedSums feedAll every
+empty-feed b sums e =
+    let t = ramp-taken b (length sums) e in
+    let s = sound-parts b (t .whole) in
+    let some : 0 < length sums = rw (t .length-is) (sides-of b s .some) in
+    let p = feed-passes b [] sums (record {
+      ramp = t;
+      room = omega (arith, s .fed);
+      readings = refl;
+      entries = written-none (pos 0) possible (length sums) (b .fed) 0 sums some refl;
+    }) in
+    rw (p, add-zero (b .fed)) (refl, refl)
+
 pub laws : BoardLaws
 unfolding updateOf startOf feedOf readOutOf dropOf
 laws = record {
   opened-sound = opened-sound;
   refused-unsound = refused-unsound;
-  update-sound = update-sound;
-  start-sound = λ b. stays b (begun b) _ (λ s e. begun-sound b s);
-  feed-sound = feed-sound;
-  read-out-sound = λ b sums output. stays b (ended b) _ (λ s e. ended-sound b s);
-  drop-sound = λ b. stays b (ended b) _ (λ s e. ended-sound b s);
+  stays-sound = record {
+    update = update-sound;
+    start = λ b. stays b (begun b) _ (λ s e. begun-sound b s);
+    feed = feed-sound;
+    read-out = λ b sums output. stays b (ended b) _ (λ s e. ended-sound b s);
+    drop = λ b. stays b (ended b) _ (λ s e. ended-sound b s);
+  };
+  unsound-99 = unsound-99;
+  sides-stay = record {
+    update = λ b bytes. same-sides (verdict (updateChecks b bytes)) b _ (refl, refl, refl);
+    start = λ b. same-sides (verdict (startChecks b)) b (begun b) (refl, refl, refl);
+    feed = λ b xs sums. same-sides (verdict (feedChecks b xs sums)) b (extended (length xs) b) (refl, refl, refl);
+    read-out = λ b sums output. same-sides (verdict (readOutChecks b sums output)) b (ended b) (refl, refl, refl);
+    drop = λ b. same-sides (verdict (dropChecks b)) b (ended b) (refl, refl, refl);
+  };
   update-waiting = λ b bytes. update-waiting (verdict (updateChecks b bytes)) b (Record.resulting bytes fieldCount (b .waiting));
   start-in-force = λ b e. start-in-force (verdict (startChecks b)) b e;
-  feed-keeps = λ b xs sums. both-kept (verdict (feedChecks b xs sums)) b (extended (length xs) b) (refl, refl);
-  read-out-keeps = λ b sums output. both-kept (verdict (readOutChecks b sums output)) b (ended b) (refl, refl);
-  drop-keeps = λ b. both-kept (verdict (dropChecks b)) b (ended b) (refl, refl);
+  start-refused = λ b r e. start-refused (verdict (startChecks b)) b r e;
+  feed-keeps = λ b xs sums. same-settings (verdict (feedChecks b xs sums)) b (extended (length xs) b) (refl, refl);
+  read-out-keeps = λ b sums output. same-settings (verdict (readOutChecks b sums output)) b (ended b) (refl, refl);
+  drop-keeps = λ b. same-settings (verdict (dropChecks b)) b (ended b) (refl, refl);
+  empty-feed = empty-feed;
 }

@@ -1,34 +1,70 @@
 -- What must be true of the operations, beside the contracts. `proofs/Laws.antt` shows it.
 use Prim.Native.Nat.{ℕ}
 use mathlib.Core.Bool.{Bool, true, false}
-use mathlib.Core.List.{List}
+use mathlib.Core.List.{List, []}
 use mathlib.Core.Path.{_≡_}
 use lib.IntN.{ℤ}
+use lib.ListN.{length}
 use Rattle.checks.specs.declared.Refusal.{Refusal}
 use Rattle.checks.specs.declared.Answer.the-variants.{Taken, Refused}
+use Rattle.checks.specs.Checks.{refusal, verdict}
 use Rattle.board.specs.declared.Board.{Board}
+use Rattle.board.specs.declared.Outcome.{Outcome}
+use Rattle.board.specs.declared.Coverage.the-variants as Coverage
 use Rattle.board.specs.Board.{sound, withWaiting}
 use Rattle.board.specs.Open.{openOf}
 use Rattle.board.specs.Update.{updateOf}
-use Rattle.board.specs.Ramp.{startOf, feedOf, readOutOf, dropOf}
+use Rattle.board.specs.Ramp.{startOf, rampChecks, feedOf, fedSums, readOutOf, readOutWords, dropOf}
+use Rattle.board.specs.Covered.{coverageOf}
+
+-- what holds between any board and what an operation leaves of it, of each operation
+pub record OfEach (P : Board → Board → Type 0) : Type 0 where
+  pub update : (b : Board) (bytes : List ℕ) → P b (updateOf b bytes .board)
+  pub start : (b : Board) → P b (startOf b .board)
+  pub feed : (b : Board) (readings : List ℕ) (sums : List ℤ) → P b (feedOf b readings sums .board)
+  pub read-out : (b : Board) (sums : List ℤ) (output : List ℕ) → P b (readOutOf b sums output .board)
+  pub drop : (b : Board) → P b (dropOf b .board)
+
+-- what is fixed at opening
+abbrev pub SameSides : Board → Board → Type 0
+SameSides old new = (new .width ≡ old .width) × (new .height ≡ old .height) × (new .binned ≡ old .binned)
+
+-- both settings
+abbrev pub SameSettings : Board → Board → Type 0
+SameSettings old new = (new .waiting ≡ old .waiting) × (new .«in_force» ≡ old .«in_force»)
+
+-- 99, and the board as it was
+abbrev pub refused99 : Board → Outcome
+refused99 b = record { answer = Refused (refusal 99); board = b }
+
+-- each operation that is handed a board gives 99, whatever else it is handed; board and buffers stay as they were
+pub record Gives99 (b : Board) : Type 0 where
+  pub update : (bytes : List ℕ) → updateOf b bytes ≡ refused99 b
+  pub start : startOf b ≡ refused99 b
+  pub feed : (readings : List ℕ) (sums : List ℤ) → (feedOf b readings sums ≡ refused99 b) × (fedSums b readings sums ≡ sums)
+  pub read-out : (sums : List ℤ) (output : List ℕ) → (readOutOf b sums output ≡ refused99 b) × (readOutWords b sums output ≡ output)
+  pub drop : dropOf b ≡ refused99 b
+  pub covered : coverageOf b ≡ Coverage.Refused (refusal 99)
 
 pub record BoardLaws : Type 0 where
   -- a taken Open gives a sound board, a refused one a board that isn't
   pub opened-sound : (w h : ℕ) (binned : Bool) → openOf w h binned .answer ≡ Taken → sound (openOf w h binned .board) ≡ true
   pub refused-unsound : (w h : ℕ) (binned : Bool) (r : Refusal) → openOf w h binned .answer ≡ Refused r → sound (openOf w h binned .board) ≡ false
   -- every operation keeps a sound board sound, and leaves any other as unsound as it was
-  pub update-sound : (b : Board) (bytes : List ℕ) → sound (updateOf b bytes .board) ≡ sound b
-  pub start-sound : (b : Board) → sound (startOf b .board) ≡ sound b
-  pub feed-sound : (b : Board) (readings : List ℕ) (sums : List ℤ) → sound (feedOf b readings sums .board) ≡ sound b
-  pub read-out-sound : (b : Board) (sums : List ℤ) (output : List ℕ) → sound (readOutOf b sums output .board) ≡ sound b
-  pub drop-sound : (b : Board) → sound (dropOf b .board) ≡ sound b
-  -- Update changes only the waiting settings
+  pub stays-sound : OfEach (λ old new. sound new ≡ sound old)
+  -- a board that isn't sound gets 99 first
+  pub unsound-99 : (b : Board) → sound b ≡ false → Gives99 b
+  -- the sides and binning stay as opened
+  pub sides-stay : OfEach SameSides
+  -- Update changes only the waiting settings: those in force stay
   pub update-waiting : (b : Board) (bytes : List ℕ) → updateOf b bytes .board ≡ withWaiting (updateOf b bytes .board .waiting) b
-  -- a taken Start puts the waiting settings in force
+  -- a taken Start puts the waiting settings in force, a refused one changes nothing
   pub start-in-force : (b : Board) → startOf b .answer ≡ Taken → startOf b .board .«in_force» ≡ b .waiting
+  pub start-refused : (b : Board) (r : Refusal) → startOf b .answer ≡ Refused r → startOf b .board ≡ b
   -- Feed, Read out and Drop keep both settings
-  pub feed-keeps : (b : Board) (readings : List ℕ) (sums : List ℤ)
-      → (feedOf b readings sums .board .waiting ≡ b .waiting) × (feedOf b readings sums .board .«in_force» ≡ b .«in_force»)
-  pub read-out-keeps : (b : Board) (sums : List ℤ) (output : List ℕ)
-      → (readOutOf b sums output .board .waiting ≡ b .waiting) × (readOutOf b sums output .board .«in_force» ≡ b .«in_force»)
-  pub drop-keeps : (b : Board) → (dropOf b .board .waiting ≡ b .waiting) × (dropOf b .board .«in_force» ≡ b .«in_force»)
+  pub feed-keeps : (b : Board) (readings : List ℕ) (sums : List ℤ) → SameSettings b (feedOf b readings sums .board)
+  pub read-out-keeps : (b : Board) (sums : List ℤ) (output : List ℕ) → SameSettings b (readOutOf b sums output .board)
+  pub drop-keeps : (b : Board) → SameSettings b (dropOf b .board)
+  -- an empty Feed that passes its checks is taken and changes nothing: only 99, 10 and 11 can refuse it
+  pub empty-feed : (b : Board) (sums : List ℤ) → verdict (rampChecks b (length sums)) ≡ Taken
+      → (feedOf b [] sums ≡ record { answer = Taken; board = b }) × (fedSums b [] sums ≡ sums)

@@ -9,9 +9,8 @@ use Rattle.checks.specs.declared.Answer.{Answer}
 use Rattle.checks.specs.Search.{firstPlace}
 use Rattle.checks.specs.Checks.{when, found, verdict, byAnswer}
 use Rattle.entries.specs.Possible.{readingInRange, possible}
-use Rattle.ramp.specs.Step.{step}
-use Rattle.ramp.specs.Feed.{feedAll}
-use Rattle.ramp.specs.Stale.{staleAt}
+use Rattle.ramp.specs.Feed.{sumsAfter}
+use Rattle.ramp.specs.Written.{notPossibleAt}
 use Rattle.words.specs.Frame.{wordCount, frameOf}
 use Rattle.board.specs.declared.Board.{Board}
 use Rattle.board.specs.declared.Outcome.{Outcome}
@@ -38,7 +37,7 @@ abbrev pub readingChecks : Board → List ℕ → List ℤ → List Answer
 readingChecks b readings sums =
     when (ltb (wanted b) (b .fed + length readings)) 12
     ∷ found (firstPlace (length readings) (λ i. not (readingInRange (getD readings i 0)))) 13
-    ∷ found (firstPlace (length sums) (staleAt (pos 0) possible (length sums) (b .fed) (length readings) sums)) 14
+    ∷ found (firstPlace (length sums) (notPossibleAt (pos 0) possible (length sums) (b .fed) (length readings) sums)) 14
     ∷ []
 
 abbrev pub feedChecks : Board → List ℕ → List ℤ → List Answer
@@ -50,7 +49,7 @@ feedOf b readings sums = leaves (verdict (feedChecks b readings sums)) b (extend
 -- the sums as Feed leaves them
 unfoldable pub fedSums : Board → List ℕ → List ℤ → List ℤ
 fedSums b readings sums =
-    byAnswer (verdict (feedChecks b readings sums)) (feedAll (pos 0) (step (b .«in_force»)) (length sums) (b .fed) readings sums) sums
+    byAnswer (verdict (feedChecks b readings sums)) (sumsAfter (b .«in_force») (b .fed) readings sums) sums
 
 -- ---- Read out
 

@@ -10,7 +10,7 @@ use crate::Board;
 use crate::Outcome;
 use checks::Answer;
 use entries::first_above;
-use ramp::stale::first_stale;
+use ramp::written::first_not_possible;
 
 impl Board {
     // What Feed and Read out begin with: 99, 10 and 11.
@@ -36,8 +36,11 @@ impl Board {
             return Answer::when(true, checks::TOO_MANY_READINGS);
         }
         let above = Answer::found(first_above(readings), checks::READING_RANGE);
-        let stale = Answer::found(first_stale(sums, fed, count), checks::ENTRY_NOT_POSSIBLE);
-        above.then(stale)
+        let impossible = Answer::found(
+            first_not_possible(sums, fed, count),
+            checks::ENTRY_NOT_POSSIBLE,
+        );
+        above.then(impossible)
     }
 
     pub fn check_feed(self, readings: &[u16], sums: &[i32]) -> Answer

@@ -13,7 +13,9 @@ pub struct Board {
     pub width: usize,
     pub height: usize,
     pub binned: bool,
+    // what updates change
     pub waiting: Settings,
+    // what a ramp runs by: Start copies them from the waiting ones
     pub in_force: Settings,
     pub running: bool,
     pub fed: usize,

@@ -33,8 +33,8 @@ module _ (w h : ℕ) (binned : Bool) (bytes : List ℕ) where
   begun-sound : begun w h binned bytes .answer ≡ Taken → sound (started w h binned bytes .board) ≡ true
   unfolding verdict
   begun-sound t =
-      BoardLaws.laws .start-sound (updated w h binned bytes .board)
-      ∙ BoardLaws.laws .update-sound (openOf w h binned .board) bytes
+      BoardLaws.laws .stays-sound .start (updated w h binned bytes .board)
+      ∙ BoardLaws.laws .stays-sound .update (openOf w h binned .board) bytes
       ∙ BoardLaws.laws .opened-sound w h binned (both-taken (openOf w h binned .answer) _ t .0)
 
   pub begun-sides : begun w h binned bytes .answer ≡ Taken

@@ -20,11 +20,13 @@ use Rattle.checks.proofs.Laws.{first-taken, verdict-append, both-taken}
 use Rattle.checks.proofs.Search.{found-every}
 use Rattle.entries.specs.Possible.{possible}
 use Rattle.ramp.specs.Step.{step}
-use Rattle.ramp.specs.Feed.{feedAll, Feedable}
+use Rattle.ramp.specs.Feed.{sumsAfter}
+use Rattle.ramp.specs.Requires.{Feedable}
 use Rattle.ramp.proofs.Feeding.{feed-length}
 use Rattle.ramp.proofs.Agrees.{agrees-none, agrees-all}
 use Rattle.ramp.proofs.Honest.{all-possible}
-use Rattle.words.specs.Frame.{wordCount, frameOf, Readable}
+use Rattle.words.specs.Frame.{wordCount, frameOf}
+use Rattle.words.specs.Requires.{Readable}
 use Rattle.board.specs.declared.Board.{Board}
 use Rattle.board.specs.Board.{area, wanted, extended}
 use Rattle.board.specs.Open.{openOf}
@@ -51,7 +53,7 @@ module _ (b : Board) (none : b .fed ≡ 0) (xs : List ℕ) (sums : List ℤ) (ta
 
   -- the sums as Feed leaves them
   left : List ℤ
-  left = feedAll (pos 0) (step (b .«in_force»)) (length sums) 0 xs sums
+  left = sumsAfter (b .«in_force») 0 xs sums
 
   left-length : length left ≡ length sums
   unfolding left
@@ -79,7 +81,7 @@ module _ (b : Board) (none : b .fed ≡ 0) (xs : List ℕ) (sums : List ℤ) (ta
   unfolding feedOf
   ramp-after =
       ramp-passes _ _ (record {
-        whole = rw taken at (BoardLaws.laws .feed-sound b xs sums) ∙ parts .ramp .whole;
+        whole = rw taken at (BoardLaws.laws .stays-sound .feed b xs sums) ∙ parts .ramp .whole;
         running = parts .ramp .running;
         length-is = left-length ∙ parts .ramp .length-is;
       })
@@ -101,7 +103,7 @@ module _ (b : Board) (xs : List ℕ) (sums : List ℤ) (output : List ℕ) (take
 
   -- the sums that Feed leaves
   abbrev summed : List ℤ
-  summed = feedAll (pos 0) (step (b .«in_force»)) (length sums) (b .fed) xs sums
+  summed = sumsAfter (b .«in_force») (b .fed) xs sums
 
   pub frame-feedable : Feedable (b .«in_force») (b .fed) xs sums
   frame-feedable = feedable b xs sums (feed-taken b xs sums feed-passed)

@@ -1,5 +1,5 @@
 -- Check 14 refuses no sums that were handed on: a clause for each call.
---     not-stale, full-possible     its search finds nothing, in Feed and in Read out
+--     not-damaged, full-possible     its search finds nothing, in Feed and in Read out
 --     honest                       so it does not refuse
 use Prim.Native.Nat.{ℕ, _+_, _≤_}
 use mathlib.Core.Bool.{true, not}
@@ -18,9 +18,9 @@ use Rattle.checks.specs.Checks.{verdict}
 use Rattle.checks.proofs.Laws.{Spares, when-spares, found-spares, none-spares}
 use Rattle.checks.proofs.Search.{found-every}
 use Rattle.entries.specs.Possible.{readingInRange, possible}
-use Rattle.ramp.specs.Stale.{staleAt}
+use Rattle.ramp.specs.Written.{notPossibleAt}
 use Rattle.ramp.proofs.Agrees.{Agrees}
-use Rattle.ramp.proofs.Honest.{never-stale, all-possible}
+use Rattle.ramp.proofs.Honest.{never-damaged, all-possible}
 use Rattle.words.specs.Frame.{wordCount}
 use Rattle.board.specs.declared.Board.{Board}
 use Rattle.board.specs.Board as Board
@@ -43,10 +43,10 @@ module _ {ℓ : Ledger} {allowed : Allowed} (good : Good ℓ allowed) where
     agree : Agrees (ℓ .inForce) (area ℓ) (ℓ .readings) sums
     agree = good .sums sums handed size
 
-    pub not-stale : (count : ℕ) → firstPlace (length sums) (staleAt (pos 0) possible (length sums) (length (ℓ .readings)) count sums) ≡ Nothing
-    not-stale count =
+    pub not-damaged : (count : ℕ) → firstPlace (length sums) (notPossibleAt (pos 0) possible (length sums) (length (ℓ .readings)) count sums) ≡ Nothing
+    not-damaged count =
         rw size
-        (never-stale (ℓ .inForce) (parts good .in-force) (area ℓ) (sides good .some) (ℓ .readings) (good .readings) (few good) sums agree count)
+        (never-damaged (ℓ .inForce) (parts good .in-force) (area ℓ) (sides good .some) (ℓ .readings) (good .readings) (few good) sums agree count)
 
     pub full-possible : wanted (viewOf ℓ) ≤ length (ℓ .readings) → every (possible (ℓ .inForce .samples)) sums ≡ true
     full-possible full =
@@ -61,7 +61,7 @@ module _ {ℓ : Ledger} {allowed : Allowed} (good : Good ℓ allowed) where
       let b = viewOf ℓ in
       ramp-spares b (length sums) (readingChecks b xs sums)
       (λ size. when-spares 14 12 _ refl (ltb (wanted b) (b .fed + length xs))
-      (λ t. found-spares 14 13 _ refl (firstPlace (length xs) (λ i. not (readingInRange (getD xs i 0)))) (none-spares 14 14 _ (not-stale sums a size (length xs)))))
+      (λ t. found-spares 14 13 _ refl (firstPlace (length xs) (λ i. not (readingInRange (getD xs i 0)))) (none-spares 14 14 _ (not-damaged sums a size (length xs)))))
   honest (readOut sums output) = λ a.
       let b = viewOf ℓ in
       ramp-spares b (length sums) (outputChecks b sums (length output))

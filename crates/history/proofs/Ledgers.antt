@@ -70,9 +70,9 @@ buffers-are ℓ drop = tt
 buffers-are ℓ covered = tt
 
 pub call-sound : (b : Board) (c : Call) → sound (outcomeOf b c .board) ≡ sound b
-call-sound b (update bytes) = laws .update-sound b bytes
-call-sound b start = laws .start-sound b
-call-sound b (feed xs sums) = laws .feed-sound b xs sums
-call-sound b (readOut sums output) = laws .read-out-sound b sums output
-call-sound b drop = laws .drop-sound b
+call-sound b (update bytes) = laws .stays-sound .update b bytes
+call-sound b start = laws .stays-sound .start b
+call-sound b (feed xs sums) = laws .stays-sound .feed b xs sums
+call-sound b (readOut sums output) = laws .stays-sound .read-out b sums output
+call-sound b drop = laws .stays-sound .drop b
 call-sound b covered = refl

@@ -28,7 +28,7 @@ use Rattle.board.proofs.Checked.{RampTaken, feed-passes, read-out-passes}
 use Rattle.history.specs.Calls.{feed, readOut, Ledger, viewOf, refusal, effect, Allowed, afterTaken}
 use Rattle.history.specs.Readings.{area, words}
 use Rattle.history.proofs.Invariant.{Good, parts, sides, few, taken-good}
-use Rattle.history.proofs.Honest.{not-stale, full-possible}
+use Rattle.history.proofs.Honest.{not-damaged, full-possible}
 
 -- a 32-bit number
 abbrev pub inBits : ℤ → Bool
@@ -58,7 +58,7 @@ module _ {ℓ : Ledger} {allowed : Allowed} {sums : List ℤ} (ramp : Ramp ℓ a
     pub feed-goes : refusal ℓ (feed xs sums) ≡ Taken
     feed-goes =
         feed-passes (viewOf ℓ) xs sums
-        (record { ramp = checked; room = room; readings = ok; stale = not-stale (ramp .good) sums (ramp .handed) (ramp .size) (length xs) })
+        (record { ramp = checked; room = room; readings = ok; entries = not-damaged (ramp .good) sums (ramp .handed) (ramp .size) (length xs) })
 
     abbrev left : List ℤ
     left = fedSums (viewOf ℓ) xs sums

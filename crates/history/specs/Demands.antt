@@ -16,8 +16,7 @@ use Rattle.checks.specs.declared.Answer.{Answer}
 use Rattle.checks.specs.declared.Answer.the-variants.{Taken, Refused}
 use Rattle.checks.specs.Checks.{byAnswer}
 use Rattle.entries.specs.Possible.{readingInRange}
-use Rattle.ramp.specs.Step.{step}
-use Rattle.ramp.specs.Feed.{feedAll}
+use Rattle.ramp.specs.Feed.{sumsAfter}
 use Rattle.ramp.specs.Exact.{exactSum}
 use Rattle.words.specs.declared.WordRead.{WordRead}
 use Rattle.words.specs.declared.WordRead.the-variants.{Saturated, Negative}
@@ -40,7 +39,7 @@ use Rattle.history.specs.Readings.{area, words, pixels, exactSums, First
 abbrev pub Buffers : Ledger → Board → Call → Type 0
 Buffers ℓ b (feed readings sums) =
     fedSums b readings sums
-    ≡ byAnswer (refusal ℓ (feed readings sums)) (feedAll (pos 0) (step (ℓ .inForce)) (length sums) (length (ℓ .readings)) readings sums) sums
+    ≡ byAnswer (refusal ℓ (feed readings sums)) (sumsAfter (ℓ .inForce) (length (ℓ .readings)) readings sums) sums
 Buffers ℓ b (readOut sums output) =
     readOutWords b sums output
     ≡ byAnswer (refusal ℓ (readOut sums output)) (frameOf (ℓ .width) (ℓ .binned) (ℓ .inForce .truncation) sums) output

@@ -9,8 +9,7 @@ use Rattle.settings.specs.declared.Settings.{Settings}
 use Rattle.settings.specs.Settings.{defaults}
 use Rattle.settings.specs.Covered.{isCovered}
 use Rattle.entries.specs.Mark.{mark}
-use Rattle.ramp.specs.Step.{step}
-use Rattle.ramp.specs.Feed.{feedAll}
+use Rattle.ramp.specs.Feed.{sumsAfter}
 use Rattle.ramp.specs.Exact.{readingOf, exactSum}
 use Rattle.words.specs.declared.WordRead.{WordRead}
 use Rattle.words.specs.declared.WordRead.the-variants.{Ordinary, Saturated, Negative}
@@ -27,7 +26,7 @@ pub data Known : Type 0 where
 abbrev pub Holds : Known → Type 0
 Holds (ramp s readings sum entry word reads covered) =
     (exactSum s (s .samples) (readingOf 1 readings 0) ≡ sum)
-    × (feedAll (pos 0) (step s) 1 0 readings (pos 77 ∷ []) ≡ entry ∷ [])
+    × (sumsAfter s 0 readings (pos 77 ∷ []) ≡ entry ∷ [])
     × (wordOf (s .truncation) (entry ∷ []) ≡ word)
     × (readWord (s .truncation) word ≡ reads)
     × (isCovered s ≡ covered)

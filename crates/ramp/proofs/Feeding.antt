@@ -15,12 +15,12 @@ use Rattle.laws.specs.Lists.{over}
 use Rattle.laws.proofs.Over.{over-part}
 use Rattle.ramp.specs.Feed.{feedOne, feedAll}
 
-module _ {E : Type 0} (none : E) (step : ℕ → E → ℕ → E) (m : ℕ) where
+module _ {E : Type 0} (absent : E) (step : ℕ → E → ℕ → E) (m : ℕ) where
   abbrev one : ℕ → ℕ → List E → List E
-  one = feedOne none step m
+  one = feedOne absent step m
 
   abbrev all : ℕ → List ℕ → List E → List E
-  all = feedAll none step m
+  all = feedAll absent step m
 
   pub one-length : (f x : ℕ) (ss : List E) → length (one f x ss) ≡ length ss
   unfolding feedOne
@@ -36,11 +36,11 @@ module _ {E : Type 0} (none : E) (step : ℕ → E → ℕ → E) (m : ℕ) wher
   feed-append [] ys f ss = rw add-zero
   feed-append (x ∷ xs) ys f ss = rw (add-suc, ← suc-add) (feed-append xs ys (suc f) (one f x ss))
 
-  pub feed-past : (xs : List ℕ) (f : ℕ) (ss : List E) (p : ℕ) → f + length xs ≤ p → getD (all f xs ss) p none ≡ getD ss p none
+  pub feed-past : (xs : List ℕ) (f : ℕ) (ss : List E) (p : ℕ) → f + length xs ≤ p → getD (all f xs ss) p absent ≡ getD ss p absent
   unfolding feedAll feedOne
   feed-past [] f ss p h = refl
   feed-past (x ∷ xs) f ss p h =
-      feed-past xs (suc f) (one f x ss) p (omega arith) ∙ getD-set-other ss (f % m) p _ none (λ e. omega (arith, mod-le f m))
+      feed-past xs (suc f) (one f x ss) p (omega arith) ∙ getD-set-other ss (f % m) p _ absent (λ e. omega (arith, mod-le f m))
 
   module _ (n : ℕ) where
     -- what sample n + 1 does to an entry
@@ -54,10 +54,10 @@ module _ {E : Type 0} (none : E) (step : ℕ → E → ℕ → E) (m : ℕ) wher
     one-sample (x ∷ xs) p ss l h =
         let q : p < m = omega arith in
         let r : p < length ss = omega arith in
-        let v = at-sample x (getD ss p none) in
+        let v = at-sample x (getD ss p absent) in
         rw (← add-suc, digits-mod n q, digits-div n q)
         (one-sample xs (suc p) (set ss p v) (simp length-set l) (omega arith)
-        ∙ rw (take-suc-set ss p v r, drop-set-lt (suc p) ss p v (omega arith), drop-cons ss p none r)
+        ∙ rw (take-suc-set ss p v r, drop-set-lt (suc p) ss p v (omega arith), drop-cons ss p absent r)
         (append-assoc (take p ss) (v ∷ []) (over at-sample xs (drop (suc p) ss))))
 
     pub feed-part : (p k : ℕ) (xs : List ℕ) (ss : List E) → length ss ≡ m → length xs ≤ k → p + k ≤ m

@@ -1,5 +1,5 @@
 -- What sums that agree with the readings hold, for check 14 and beyond. The readings are in range, and nine samples at most.
---     never-stale      check 14 of Feed finds nothing
+--     never-damaged      check 14 of Feed finds nothing
 --     all-possible     after n whole samples, every entry is possible for n
 --     all-pass         a test of every possible entry, and of those that are not written yet, is one of them all
 use Prim.Native.Nat.{ℕ, zero, suc, _*_, _≤_, _<_}
@@ -21,7 +21,7 @@ use Rattle.checks.specs.Search.{firstPlace}
 use Rattle.checks.proofs.Search.{nowhere}
 use Rattle.entries.specs.Possible.{readingInRange, possible}
 use Rattle.ramp.specs.Feed.{samplesWritten}
-use Rattle.ramp.specs.Stale.{staleAt}
+use Rattle.ramp.specs.Written.{notPossibleAt}
 use Rattle.ramp.proofs.Places.{same-sample, next}
 use Rattle.ramp.proofs.Agrees.{Agrees, undamaged}
 
@@ -36,9 +36,9 @@ module _ (s : Settings) (r : InRange s) (m : ℕ) (some : 0 < m) (xs : List ℕ)
   entry : (p : ℕ) → p < m → (k : ℕ) → samplesWritten m (length xs) p ≡ k → 1 ≤ k → possible k (getD sums p (pos 0)) ≡ true
   entry = undamaged s r m some xs ok sums agrees few
 
-  pub never-stale : (count : ℕ) → firstPlace m (staleAt (pos 0) possible m (length xs) count sums) ≡ Nothing
-  never-stale count =
-      nowhere (staleAt (pos 0) possible m (length xs) count sums) m
+  pub never-damaged : (count : ℕ) → firstPlace m (notPossibleAt (pos 0) possible m (length xs) count sums) ≡ Nothing
+  never-damaged count =
+      nowhere (notPossibleAt (pos 0) possible m (length xs) count sums) m
       (λ p h. let k = samplesWritten m (length xs) p in none-fails (leb 1 k) _ _ (λ t. entry p h k refl (leb-true 1 k t)))
 
   pub all-possible : (n : ℕ) → 1 ≤ n → length xs ≡ n * m → every (possible n) sums ≡ true

@@ -1,8 +1,8 @@
 -- Check 14 of Feed in the two intervals that the code walks, for any kind of entry. With q = f mod m and c = f div m, the pixels below q have had c + 1
 -- samples and those from q on c.
---     stale-found, stale-first     the search over all pixels is the search over the two intervals; in the first sample, over the first
---     stale-none                   a Feed that brings no reading finds nothing
---     stale-ready                  where nothing is found, the sums are ready
+--     written-found, written-first     the search over all pixels is the search over the two intervals; in the first sample, over the first
+--     written-none                   a Feed that brings no reading finds nothing
+--     written-ready                  where nothing is found, the sums are ready
 use Prim.Native.Nat.{ℕ, _+_, _*_, _-_, _/_, _%_, _≤_, _<_, min}
 use mathlib.Core.Bool.{Bool, true, false, not, _&&_}
 use mathlib.Core.List.{List}
@@ -16,16 +16,17 @@ use Rattle.laws.proofs.Tests.{cases}
 use Rattle.checks.specs.declared.Found.the-variants.{Nothing}
 use Rattle.checks.specs.Search.{orElse, firstPlace, shifted}
 use Rattle.checks.proofs.Search.{nowhere, found-none, found-same, found-append, found-cut, else-none}
-use Rattle.ramp.specs.Feed.{samplesWritten, Ready}
-use Rattle.ramp.specs.Stale.{staleAt}
+use Rattle.ramp.specs.Feed.{samplesWritten}
+use Rattle.ramp.specs.Written.{notPossibleAt}
 use Rattle.ramp.proofs.Places.{same-sample, place, next}
+use Rattle.ramp.proofs.Ready.{Ready}
 
 -- two tests of the same difference
 differ : (a b c d : ℕ) → a + d ≡ c + b → ltb a b ≡ ltb c d
 differ a b c d e =
     cases (ltb c d) (λ t. lt-ltb a b (omega (arith, ltb-true c d t)) ∙ sym t) (λ t. le-ltb a b (omega (arith, ltb-false c d t)) ∙ sym t)
 
-module _ {E : Type 0} (none : E) (test : ℕ → E → Bool) (m f count : ℕ) (ss : List E) (some : 0 < m) where
+module _ {E : Type 0} (absent : E) (test : ℕ → E → Bool) (m f count : ℕ) (ss : List E) (some : 0 < m) where
   abbrev q : ℕ
   q = f % m
 
@@ -35,18 +36,18 @@ module _ {E : Type 0} (none : E) (test : ℕ → E → Bool) (m f count : ℕ) (
   here : (c * m + q ≡ f) × (q < m)
   here = place f m some
 
-  abbrev stale : ℕ → Bool
-  stale = staleAt none test m f count ss
+  abbrev bad : ℕ → Bool
+  bad = notPossibleAt absent test m f count ss
 
   abbrev fails : ℕ → ℕ → Bool
-  fails k p = not (test k (getD ss p none))
+  fails k p = not (test k (getD ss p absent))
 
-  at-low : (p : ℕ) → p < q → stale p ≡ (ltb (m + p) (q + count) && fails (c + 1) p)
+  at-low : (p : ℕ) → p < q → bad p ≡ (ltb (m + p) (q + count) && fails (c + 1) p)
   at-low p h =
       let e : (c + 1) * m ≡ c * m + m = rw (add-mul c 1 m, one-mul m) in
       rw (lt-ltb p q h, le-leb 1 (c + 1) (omega arith), differ ((c + 1) * m + p) (f + count) (m + p) (q + count) (omega (arith, e, here)))
 
-  at-high : (p : ℕ) → q ≤ p → stale p ≡ (leb 1 c && ltb p (q + count) && fails c p)
+  at-high : (p : ℕ) → q ≤ p → bad p ≡ (leb 1 c && ltb p (q + count) && fails c p)
   at-high p h = rw (le-ltb p q h, add-zero c, differ (c * m + p) (f + count) p (q + count) (omega (arith, here)))
 
   abbrev low : ℕ
@@ -55,44 +56,44 @@ module _ {E : Type 0} (none : E) (test : ℕ → E → Bool) (m f count : ℕ) (
   abbrev high : ℕ
   high = min (q + count) m
 
-  low-part : firstPlace q stale ≡ firstPlace low (fails (c + 1))
+  low-part : firstPlace q bad ≡ firstPlace low (fails (c + 1))
   low-part =
-      found-cut stale low q (omega arith) (λ p l h. at-low p h ∙ rw (le-ltb (m + p) (q + count) (omega arith)))
-      ∙ found-same stale (fails (c + 1)) low (λ p h. at-low p (omega arith) ∙ rw (lt-ltb (m + p) (q + count) (omega arith)))
+      found-cut bad low q (omega arith) (λ p l h. at-low p h ∙ rw (le-ltb (m + p) (q + count) (omega arith)))
+      ∙ found-same bad (fails (c + 1)) low (λ p h. at-low p (omega arith) ∙ rw (lt-ltb (m + p) (q + count) (omega arith)))
 
-  high-part : 0 < c → firstPlace (m - q) (λ i. stale (q + i)) ≡ firstPlace (high - q) (λ i. fails c (q + i))
+  high-part : 0 < c → firstPlace (m - q) (λ i. bad (q + i)) ≡ firstPlace (high - q) (λ i. fails c (q + i))
   high-part h =
-      found-cut (λ i. stale (q + i)) (high - q) (m - q) (omega (arith, here))
+      found-cut (λ i. bad (q + i)) (high - q) (m - q) (omega (arith, here))
       (λ i l k. at-high (q + i) (omega arith) ∙ rw (le-leb 1 c h, le-ltb (q + i) (q + count) (omega arith)))
-      ∙ found-same (λ i. stale (q + i)) (λ i. fails c (q + i)) (high - q)
+      ∙ found-same (λ i. bad (q + i)) (λ i. fails c (q + i)) (high - q)
       (λ i k. at-high (q + i) (omega arith) ∙ rw (le-leb 1 c h, lt-ltb (q + i) (q + count) (omega arith)))
 
-  none-high : c ≡ 0 → firstPlace (m - q) (λ i. stale (q + i)) ≡ Nothing
-  none-high e = nowhere (λ i. stale (q + i)) (m - q) (λ i k. at-high (q + i) (omega arith) ∙ rw e)
+  none-high : c ≡ 0 → firstPlace (m - q) (λ i. bad (q + i)) ≡ Nothing
+  none-high e = nowhere (λ i. bad (q + i)) (m - q) (λ i k. at-high (q + i) (omega arith) ∙ rw e)
 
-  whole : firstPlace m stale ≡ orElse (firstPlace q stale) (shifted q (firstPlace (m - q) (λ i. stale (q + i))))
+  whole : firstPlace m bad ≡ orElse (firstPlace q bad) (shifted q (firstPlace (m - q) (λ i. bad (q + i))))
   whole =
       let e : q + (m - q) ≡ m = omega (arith, here) in
-      sym (ap (λ (k : ℕ). firstPlace k stale) e) ∙ found-append stale q (m - q)
+      sym (ap (λ (k : ℕ). firstPlace k bad) e) ∙ found-append bad q (m - q)
 
-  pub stale-found : 0 < c → firstPlace m stale ≡ orElse (firstPlace low (fails (c + 1))) (shifted q (firstPlace (high - q) (λ i. fails c (q + i))))
-  stale-found h = whole ∙ rw (low-part, high-part h)
+  pub written-found : 0 < c → firstPlace m bad ≡ orElse (firstPlace low (fails (c + 1))) (shifted q (firstPlace (high - q) (λ i. fails c (q + i))))
+  written-found h = whole ∙ rw (low-part, high-part h)
 
-  pub stale-first : c ≡ 0 → firstPlace m stale ≡ firstPlace low (fails (c + 1))
-  stale-first e = whole ∙ rw (low-part, none-high e) (else-none (firstPlace low (fails (c + 1))))
+  pub written-first : c ≡ 0 → firstPlace m bad ≡ firstPlace low (fails (c + 1))
+  written-first e = whole ∙ rw (low-part, none-high e) (else-none (firstPlace low (fails (c + 1))))
 
-  pub stale-none : count ≡ 0 → firstPlace m stale ≡ Nothing
-  stale-none e =
-      nowhere stale m
+  pub written-none : count ≡ 0 → firstPlace m bad ≡ Nothing
+  written-none e =
+      nowhere bad m
       (λ p h. let k = samplesWritten m f p in rw (le-ltb (k * m + p) (f + count) (omega (arith, next f m some p h))) (and-false (leb 1 k) (fails k p)))
     where
       and-false : (a b : Bool) → (a && false && b) ≡ false
       and-false true b = refl
       and-false false b = refl
 
-  pub stale-ready : firstPlace m stale ≡ Nothing → Ready none test m f count ss
+  pub written-ready : firstPlace m bad ≡ Nothing → Ready absent test m f count ss
   unfolding Ready
-  stale-ready e p k h lo hi brought pos =
+  written-ready e p k h lo hi brought pos =
       let w = next f m some p h in
       let d : samplesWritten m f p ≡ k = same-sample m p (samplesWritten m f p) k (omega arith) (omega arith) in
-      not-false _ (rw (d, le-leb 1 k pos, lt-ltb (k * m + p) (f + count) brought) at (found-none stale m e p h))
+      not-false _ (rw (d, le-leb 1 k pos, lt-ltb (k * m + p) (f + count) brought) at (found-none bad m e p h))

@@ -1,7 +1,9 @@
 -- The laws of a ramp.
 use native.Mathlib.Omega.{arith}
 use lib.IntN.{pos}
+use lib.ListN.{length}
 use mathlib.Core.List.{[]}
+use mathlib.Core.Path.{refl}
 use Rattle.laws.proofs.Tests.{cases}
 use Rattle.laws.proofs.Ints.{signed}
 use Rattle.settings.specs.Covered.{isCovered}
@@ -9,17 +11,17 @@ use Rattle.settings.proofs.Parts.{in-range-parts}
 use Rattle.ramp.specs.Step.{step}
 use Rattle.ramp.specs.Laws.{RampLaws}
 use Rattle.ramp.proofs.Steps.{possible-step}
-use Rattle.ramp.proofs.Feeding.{feed-append}
+use Rattle.ramp.proofs.Feeding.{feed-length, feed-append}
 use Rattle.ramp.proofs.Bounds.{cover-holds, cover-breaks, worst, worst-low}
 use Rattle.ramp.proofs.Agrees.{agrees-none, agrees-all}
 
 pub laws : RampLaws
 laws = record {
   stays-possible = λ s e. possible-step s (in-range-parts s e);
-  in-two = λ s m f xs ys sums. feed-append (pos 0) (step s) m xs ys f sums;
-  entry-is = λ s e m xs sums whole p k h few.
+  in-two = λ s f xs ys sums. rw (feed-length (pos 0) (step s) (length sums) xs f sums) (feed-append (pos 0) (step s) (length sums) xs ys f sums);
+  entry-is = λ s e xs sums p k h few.
       let r = in-range-parts s e in
-      agrees-all s r m (omega arith) [] xs sums (agrees-none s r m (omega arith) sums whole) .entry p k h;
+      agrees-all s r (length sums) (omega arith) [] xs sums (agrees-none s r (length sums) (omega arith) sums refl) .entry p k h;
   covered-is = λ s. (
     (λ c x low over. omega (signed, cover-holds s c x low)),
     λ h. cases (isCovered s) (λ t. t) (λ t. absurd (h (worst s) (worst-low s (s .samples)) (cover-breaks s t))),

@@ -18,7 +18,7 @@ use Rattle.settings.proofs.Parts.{InRange}
 use Rattle.entries.specs.Mark.{mark, marked, sampleOf}
 use Rattle.entries.specs.Possible.{readingInRange, possible}
 use Rattle.entries.proofs.Marks.{is-marked, sample-is, sample-none}
-use Rattle.ramp.specs.Step.{overIt, onGround, step}
+use Rattle.ramp.specs.Step.{overIt, stepFrom, step}
 use Rattle.ramp.specs.Exact.{exactSum, firstOver, markedBy, entryAfter}
 use Rattle.ramp.proofs.Steps.{possible-step}
 use Rattle.ramp.proofs.Bounds.{part, low-of, below-marks}
@@ -37,9 +37,9 @@ module _ (s : Settings) (r : InRange s) (x : ℕ → ℕ) where
       by (some n) f = sample-is n (f .low)
       by none f = sample-none (exactSum s k x) (unmarked k f)
 
-  ground-step : (k : ℕ) → onGround (weightAt s (suc k)) (over (suc k)) (mark (suc k)) (entryAfter s k x) (x (suc k)) ≡ entryAfter s (suc k) x
+  base-step : (k : ℕ) → stepFrom (weightAt s (suc k)) (over (suc k)) (mark (suc k)) (entryAfter s k x) (x (suc k)) ≡ entryAfter s (suc k) x
   unfolding firstOf sumTo
-  ground-step k = by (firstOver s k x) (first-says over k)
+  base-step k = by (firstOver s k x) (first-says over k)
     where
       z : ℤ
       z = exactSum s k x
@@ -49,15 +49,15 @@ module _ (s : Settings) (r : InRange s) (x : ℕ → ℕ) where
       last false = +ℤ-assoc (pos 128) (sumTo k (part s x)) (part s x (suc k))
 
       by : (o : Option ℕ) → Says over k o
-          → onGround (weightAt s (suc k)) (over (suc k)) (mark (suc k)) (markedBy o z) (x (suc k))
+          → stepFrom (weightAt s (suc k)) (over (suc k)) (mark (suc k)) (markedBy o z) (x (suc k))
           ≡ markedBy (orElse o (cond (over (suc k)) (some (suc k)) none)) (pos 128 +ℤ (sumTo k (part s x) +ℤ part s x (suc k)))
       by (some n) f = rw (is-marked n (f .low))
       by none f = rw (unmarked k f) (last (over (suc k)))
 
   pub entry-step : (k : ℕ) (e : ℤ) → (1 ≤ k → e ≡ entryAfter s k x) → step s (suc k) e (x (suc k)) ≡ entryAfter s (suc k) x
   unfolding step firstOf sumTo
-  entry-step zero e q = ground-step 0
-  entry-step (suc k) e q = rw (q (omega arith)) (ground-step (suc k))
+  entry-step zero e q = base-step 0
+  entry-step (suc k) e q = rw (q (omega arith)) (base-step (suc k))
 
   pub entry-possible : ((n : ℕ) → readingInRange (x n) ≡ true) → (k : ℕ) → k ≤ 9 → 0 < k → possible k (entryAfter s k x) ≡ true
   entry-possible ok zero few l = absurd (omega arith)

@@ -1,6 +1,6 @@
 -- The laws of one step.
---     ground-one, ground-not    what sample n adds to
---     ground-range              it lies where a product can be added
+--     base-one, base-not    what sample n adds to
+--     base-range              it lies where a product can be added
 --     possible-step             a step takes an entry that is possible for k to one that is possible for k + 1; sample 1 takes any entry
 use Prim.Native.Nat.{ℕ, zero, suc, _≤_, _<_}
 use mathlib.Core.Bool.{Bool, true, false, cond}
@@ -16,25 +16,25 @@ use Rattle.settings.proofs.Parts.{InRange}
 use Rattle.entries.specs.Mark.{mark}
 use Rattle.entries.specs.Possible.{readingInRange, possible}
 use Rattle.entries.proofs.Possible.{Mark, Near, fair, is-fair}
-use Rattle.ramp.specs.Step.{overIt, ground, onGround, step}
+use Rattle.ramp.specs.Step.{overIt, base, stepFrom, step}
 use Rattle.ramp.proofs.Products.{product}
 
-pub ground-one : (n : ℕ) (e : ℤ) → n ≡ 1 → pos 128 ≡ ground n e
-ground-one n e q = rw q
+pub base-one : (n : ℕ) (e : ℤ) → n ≡ 1 → pos 128 ≡ base n e
+base-one n e q = rw q
 
-pub ground-not : (n : ℕ) (e : ℤ) → (n ≡ 1 → ⊥) → e ≡ ground n e
-ground-not zero e q = refl
-ground-not (suc zero) e q = absurd (q refl)
-ground-not (suc (suc n)) e q = refl
+pub base-not : (n : ℕ) (e : ℤ) → (n ≡ 1 → ⊥) → e ≡ base n e
+base-not zero e q = refl
+base-not (suc zero) e q = absurd (q refl)
+base-not (suc (suc n)) e q = refl
 
 -- an entry that sample n can be added to
 abbrev pub Addable : ℕ → ℤ → Type 0
 Addable n e = (k : ℕ) → 1 ≤ k → n ≡ suc k → possible k e ≡ true
 
-pub ground-range : (n : ℕ) (e : ℤ) → (1 ≤ n) × (n ≤ 9) → Addable n e → (negℤ (pos 1073741824) ≤ℤ ground n e) × (ground n e ≤ℤ pos 1073741833)
-ground-range zero e h a = absurd (omega arith)
-ground-range (suc zero) e h a = (record { le = tt }, record { le = tt })
-ground-range (suc (suc n)) e h a =
+pub base-range : (n : ℕ) (e : ℤ) → (1 ≤ n) × (n ≤ 9) → Addable n e → (negℤ (pos 1073741824) ≤ℤ base n e) × (base n e ≤ℤ pos 1073741833)
+base-range zero e h a = absurd (omega arith)
+base-range (suc zero) e h a = (record { le = tt }, record { le = tt })
+base-range (suc (suc n)) e h a =
     ⊎-elim (λ m. omega signed) (λ m. omega signed) (fair (suc n) e (a (suc n) (omega arith) refl))
 
 pub weight-in-range : (s : Settings) → InRange s → (n : ℕ) → weightInRange (weightAt s n) ≡ true
@@ -43,7 +43,7 @@ weight-in-range s r (suc i) = r .weights i
 
 module _ (w : ℤ) (x : ℕ) (hw : weightInRange w ≡ true) (hx : readingInRange x ≡ true) (k : ℕ) (few : k ≤ 8) where
   -- on an entry that is near for k, unmarked
-  near-step : (e : ℤ) → Near k e → (above : Bool) → possible (suc k) (onGround w above (mark (suc k)) e x) ≡ true
+  near-step : (e : ℤ) → Near k e → (above : Bool) → possible (suc k) (stepFrom w above (mark (suc k)) e x) ≡ true
   near-step e h above = rw (not-le (mark 1) e (omega arith)) (by above)
     where
       by : (b : Bool) → possible (suc k) (cond b (mark (suc k)) (e +ℤ w *ℤ pos x)) ≡ true
@@ -51,15 +51,15 @@ module _ (w : ℤ) (x : ℕ) (hw : weightInRange w ≡ true) (hx : readingInRang
       by false = is-fair (suc k) (e +ℤ w *ℤ pos x) (inr (omega (arith, product w x hw hx, sum e (w *ℤ pos x))))
 
   -- on a mark of a sample up to k
-  mark-step : (e : ℤ) → Mark k e → (above : Bool) → possible (suc k) (onGround w above (mark (suc k)) e x) ≡ true
+  mark-step : (e : ℤ) → Mark k e → (above : Bool) → possible (suc k) (stepFrom w above (mark (suc k)) e x) ≡ true
   mark-step e h above = rw (is-le (mark 1) e (omega arith)) (is-fair (suc k) e (inl (omega arith)))
 
-ground-step : (w : ℤ) (above : Bool) (k : ℕ) (e : ℤ) (x : ℕ) → weightInRange w ≡ true → readingInRange x ≡ true → k ≤ 8 → (0 < k → possible k e ≡ true)
-    → possible (suc k) (onGround w above (mark (suc k)) (ground (suc k) e) x) ≡ true
-ground-step w above zero e x hw hx few h = near-step w x hw hx 0 few (pos 128) (omega arith) above
-ground-step w above (suc k) e x hw hx few h =
+base-step : (w : ℤ) (above : Bool) (k : ℕ) (e : ℤ) (x : ℕ) → weightInRange w ≡ true → readingInRange x ≡ true → k ≤ 8 → (0 < k → possible k e ≡ true)
+    → possible (suc k) (stepFrom w above (mark (suc k)) (base (suc k) e) x) ≡ true
+base-step w above zero e x hw hx few h = near-step w x hw hx 0 few (pos 128) (omega arith) above
+base-step w above (suc k) e x hw hx few h =
     ⊎-elim (λ m. mark-step w x hw hx (suc k) few e m above) (λ m. near-step w x hw hx (suc k) few e m above) (fair (suc k) e (h (omega arith)))
 
 pub possible-step : (s : Settings) → InRange s → (k : ℕ) (e : ℤ) (x : ℕ) → k ≤ 8 → readingInRange x ≡ true → (0 < k → possible k e ≡ true) → possible (suc k) (step s (suc k) e x) ≡ true
 unfolding step
-possible-step s r k e x few ok h = ground-step (weightAt s (suc k)) (overIt s (suc k) x) k e x (weight-in-range s r (suc k)) ok few h
+possible-step s r k e x few ok h = base-step (weightAt s (suc k)) (overIt s (suc k) x) k e x (weight-in-range s r (suc k)) ok few h

@@ -14,11 +14,13 @@ use Rattle.settings.specs.declared.Settings.{Settings}
 use Rattle.settings.proofs.Parts.{in-range-parts}
 use Rattle.entries.specs.Possible.{readingInRange, possible}
 use Rattle.ramp.specs.Step.{step}
-use Rattle.ramp.specs.Feed.{feedAll, Ready, Feedable}
+use Rattle.ramp.specs.Feed.{feedAll}
+use Rattle.ramp.specs.Requires.{Feedable}
 use Rattle.ramp.proofs.Steps.{possible-step}
 use Rattle.ramp.proofs.Places.{place}
 use Rattle.ramp.proofs.Feeding.{feed-length, feed-append, feed-part}
-use Rattle.ramp.proofs.Ready.{ready-all}
+use Rattle.ramp.proofs.Ready.{Ready, ready-all}
+use Rattle.ramp.proofs.Intervals.{written-ready}
 
 module _ (s : Settings) (f : ℕ) (xs : List ℕ) (ss : List ℤ) (h : Feedable s f xs ss) (i k : ℕ) (hk : i + k ≤ length xs) (hp : (f + i) % length ss + k ≤ length ss) where
   abbrev m : ℕ
@@ -43,7 +45,7 @@ module _ (s : Settings) (f : ℕ) (xs : List ℕ) (ss : List ℤ) (h : Feedable 
   ready : Ready (pos 0) possible m (f + i) (length xs - i) sums
   ready =
       let c : length (take i xs) + (length xs - i) ≡ length xs = rw taken (omega arith) in
-      rw taken at (ready-all (pos 0) (step s) possible m (h .some) (possible-step s (in-range-parts s (h .settings))) (take i xs) f (length xs - i) ss (every-take readingInRange i xs (h .readings)) (rw taken (omega (arith, h .room))) refl (rw c (h .entries)))
+      rw taken at (ready-all (pos 0) (step s) possible m (h .some) (possible-step s (in-range-parts s (h .settings))) (take i xs) f (length xs - i) ss (every-take readingInRange i xs (h .readings)) (rw taken (omega (arith, h .room))) refl (rw c (written-ready (pos 0) possible m f (length xs) ss (h .some) (h .entries))))
 
   pub turn-possible : (j : ℕ) → 1 ≤ j → n + 1 ≡ suc j → every (possible j) (take k (drop p sums)) ≡ true
   unfolding Ready

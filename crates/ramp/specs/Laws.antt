@@ -12,23 +12,19 @@ use Rattle.settings.specs.Settings.{inRange}
 use Rattle.settings.specs.Covered.{ceiling, isCovered}
 use Rattle.entries.specs.Possible.{readingInRange, possible}
 use Rattle.ramp.specs.Step.{step}
-use Rattle.ramp.specs.Feed.{feedAll}
+use Rattle.ramp.specs.Feed.{sumsAfter}
 use Rattle.ramp.specs.Exact.{readingOf, exactSum, entryAfter}
-
--- the sums after readings from number f on
-abbrev pub fed : Settings → ℕ → ℕ → List ℕ → List ℤ → List ℤ
-fed s m f xs sums = feedAll (pos 0) (step s) m f xs sums
 
 pub record RampLaws : Type 0 where
   -- a step takes an entry that is possible for k to one that is possible for k + 1; sample 1 takes any entry to one that is possible for 1
   pub stays-possible : (s : Settings) → inRange s ≡ true → (k : ℕ) (e : ℤ) (x : ℕ) → k ≤ 8 → readingInRange x ≡ true
       → (0 < k → possible k e ≡ true) → possible (suc k) (step s (suc k) e x) ≡ true
   -- some readings, and then some more
-  pub in-two : (s : Settings) (m f : ℕ) (xs ys : List ℕ) (sums : List ℤ) → fed s m f (xs ++ ys) sums ≡ fed s m (f + length xs) ys (fed s m f xs sums)
+  pub in-two : (s : Settings) (f : ℕ) (xs ys : List ℕ) (sums : List ℤ) → sumsAfter s f (xs ++ ys) sums ≡ sumsAfter s (f + length xs) ys (sumsAfter s f xs sums)
   -- a pixel that has had k samples of a ramp, and no more, holds the mark of its first sample over the threshold, or else its exact sum; whatever stood there before
-  pub entry-is : (s : Settings) → inRange s ≡ true → (m : ℕ) (xs : List ℕ) (sums : List ℤ) → length sums ≡ m
-      → (p k : ℕ) → p < m → k ≤ 8 → k * m + p < length xs → length xs ≤ k * m + p + m
-      → getD (fed s m 0 xs sums) p (pos 0) ≡ entryAfter s (suc k) (readingOf m xs p)
+  pub entry-is : (s : Settings) → inRange s ≡ true → (xs : List ℕ) (sums : List ℤ)
+      → let m = length sums in (p k : ℕ) → p < m → k ≤ 8 → k * m + p < length xs → length xs ≤ k * m + p + m
+      → getD (sumsAfter s 0 xs sums) p (pos 0) ≡ entryAfter s (suc k) (readingOf m xs p)
   -- settings are covered exactly where no readings at or below the threshold, one per sample, have an exact sum of 32,752 × 2^r or more
   pub covered-is : (s : Settings)
       → (isCovered s ≡ true)

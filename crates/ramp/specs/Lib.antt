@@ -1,6 +1,7 @@
--- The sum of a ramp: a reading's step, Feed as the fold of it, which entries are stale, and what a pixel's readings come to.
+-- The sum of a ramp: a reading's step, Feed as the fold of it, check 14, and what a pixel's readings come to.
 pub mod Step
 pub mod Feed
-pub mod Stale
+pub mod Written
 pub mod Exact
+pub mod Requires
 pub mod Laws

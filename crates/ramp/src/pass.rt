@@ -2,15 +2,14 @@
 ghost use mathlib.Core.Path.{_≡_};
 ghost use mathlib.Core.Bool.{true};
 ghost use Prim.Native.Nat.{ℕ, suc, _≤_};
-ghost use lib.Dec.{ltb};
-ghost use lib.IntN.{pos};
 ghost use lib.ListN.{length};
 ghost use Rattle.laws.specs.Lists.{every, over};
 ghost use Rattle.settings.specs.Settings.{weightInRange, thresholdInRange};
 ghost use Rattle.entries.specs.Mark.{mark};
 ghost use Rattle.entries.specs.Possible.{readingInRange, possible};
-ghost use Rattle.ramp.specs.Step.{ground, onGround, step};
-ghost use Rattle.ramp.specs.Feed.{feedAll, Feedable};
+ghost use Rattle.ramp.specs.Step.{isAbove, base, stepFrom};
+ghost use Rattle.ramp.specs.Feed.{sumsAfter};
+ghost use Rattle.ramp.specs.Requires.{Feedable};
 use crate::numbers::least;
 use crate::step::stepped;
 use settings::Settings;
@@ -23,7 +22,7 @@ fn feed_part(readings: &[u16], sums: &mut [i32], n: usize, weight: i32, threshol
     requires { ⌜ thresholdInRange threshold ≡ true ⌝ }
     requires { ⌜ every readingInRange (now readings) ≡ true ⌝ }
     requires { ⌜ ((k : ℕ) → 1 ≤ k → n ≡ suc k → every (possible k) (now sums) ≡ true) ⌝ }
-    ensures { λ r. ⌜ now (sums .exit) ≡ over (λ x e. onGround weight (ltb threshold x) (mark n) (ground n e) x) (now (readings .entry)) (now (sums .entry)) ⌝ }
+    ensures { λ r. ⌜ now (sums .exit) ≡ over (λ x e. stepFrom weight (isAbove threshold x) (mark n) (base n e) x) (now (readings .entry)) (now (sums .entry)) ⌝ }
 {
     let mut i = 0;
     while i < sums.len() {
@@ -35,7 +34,7 @@ fn feed_part(readings: &[u16], sums: &mut [i32], n: usize, weight: i32, threshol
 // Feed: sample by sample, each over the part of the sums that its readings reach.
 pub fn feed(readings: &[u16], sums: &mut [i32], fed: usize, settings: Settings)
     requires { ⌜ Feedable settings fed (now readings) (now sums) ⌝ }
-    ensures { λ r. ⌜ now (sums .exit) ≡ feedAll (pos 0) (step settings) (length (now (sums .entry))) fed (now (readings .entry)) (now (sums .entry)) ⌝ }
+    ensures { λ r. ⌜ now (sums .exit) ≡ sumsAfter settings fed (now (readings .entry)) (now (sums .entry)) ⌝ }
 {
     let threshold = settings.threshold;
     let m = sums.len();

@@ -2,19 +2,18 @@
 ghost use mathlib.Core.Path.{_≡_};
 ghost use mathlib.Core.Bool.{true, cond};
 ghost use Prim.Native.Nat.{ℕ, suc, _≤_};
-ghost use lib.Dec.{ltb};
 ghost use lib.IntN.{pos, negℤ, natAbs, _*ℤ_};
 ghost use lib.Signed.{_≤ℤ_};
 ghost use Rattle.settings.specs.Settings.{weightInRange, thresholdInRange};
 ghost use Rattle.entries.specs.Mark.{mark};
 ghost use Rattle.entries.specs.Possible.{readingInRange, possible};
 ghost use Rattle.ramp.specs.Step as Def;
-ghost use Rattle.ramp.specs.Step.{onGround};
+ghost use Rattle.ramp.specs.Step.{isAbove, stepFrom};
 use entries::MARK;
 
 // What sample n adds to: 128 at sample 1, else the entry.
-fn ground(entry: i32, n: usize) -> i32
-    ensures { λ r. ⌜ r ≡ Def.ground n entry ⌝ }
+fn base(entry: i32, n: usize) -> i32
+    ensures { λ r. ⌜ r ≡ Def.base n entry ⌝ }
 {
     if n == 1 { 128 } else { entry }
 }
@@ -45,7 +44,7 @@ fn product(weight: i32, reading: u16) -> i32
 fn is_above(reading: u16, threshold: u16) -> bool
     requires { ⌜ readingInRange reading ≡ true ⌝ }
     requires { ⌜ thresholdInRange threshold ≡ true ⌝ }
-    ensures { λ r. ⌜ r ≡ ltb threshold reading ⌝ }
+    ensures { λ r. ⌜ r ≡ isAbove threshold reading ⌝ }
 {
     reading as i16 > threshold as i16
 }
@@ -58,12 +57,12 @@ fn pick(test: bool, yes: i32, no: i32) -> i32
 }
 
 // A marked entry stays, a reading above the threshold makes the mark, any other adds its product.
-fn on_ground(entry: i32, reading: u16, weight: i32, threshold: u16, mark: i32) -> i32
+fn step_from(entry: i32, reading: u16, weight: i32, threshold: u16, mark: i32) -> i32
     requires { ⌜ weightInRange weight ≡ true ⌝ }
     requires { ⌜ thresholdInRange threshold ≡ true ⌝ }
     requires { ⌜ readingInRange reading ≡ true ⌝ }
     requires { ⌜ (negℤ (pos 1073741824) ≤ℤ entry) × (entry ≤ℤ pos 1073741833) ⌝ }
-    ensures { λ r. ⌜ r ≡ onGround weight (ltb threshold reading) mark entry reading ⌝ }
+    ensures { λ r. ⌜ r ≡ stepFrom weight (isAbove threshold reading) mark entry reading ⌝ }
 {
     let sum = entry + product(weight, reading);
     let next = pick(is_above(reading, threshold), mark, sum);
@@ -77,13 +76,7 @@ pub(crate) fn stepped(entry: i32, reading: u16, n: usize, weight: i32, threshold
     requires { ⌜ thresholdInRange threshold ≡ true ⌝ }
     requires { ⌜ readingInRange reading ≡ true ⌝ }
     requires { ⌜ ((k : ℕ) → 1 ≤ k → n ≡ suc k → possible k entry ≡ true) ⌝ }
-    ensures { λ r. ⌜ r ≡ onGround weight (ltb threshold reading) (mark n) (Def.ground n entry) reading ⌝ }
+    ensures { λ r. ⌜ r ≡ stepFrom weight (isAbove threshold reading) (mark n) (Def.base n entry) reading ⌝ }
 {
-    on_ground(
-        ground(entry, n),
-        reading,
-        weight,
-        threshold,
-        MARK + n as i32,
-    )
+    step_from(base(entry, n), reading, weight, threshold, MARK + n as i32)
 }

@@ -21,7 +21,8 @@ use Rattle.entries.specs.Mark.{mark, marked, sampleOf}
 use Rattle.entries.specs.Possible.{possible}
 use Rattle.entries.proofs.Marks.{sample-is, sample-none, by-mark}
 use Rattle.entries.proofs.Possible.{fair}
-use Rattle.words.specs.Word.{smaller, readable}
+use Rattle.words.specs.Word.{smaller}
+use Rattle.words.specs.Requires.{readable}
 
 pub possible-readable : (k : ℕ) (e : ℤ) → k ≤ 9 → possible k e ≡ true → readable e ≡ true
 unfolding readable

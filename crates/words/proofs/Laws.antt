@@ -17,7 +17,7 @@ use Rattle.laws.specs.Lists.{total}
 use Rattle.laws.proofs.Tests.{clash}
 use Rattle.settings.specs.Settings.{truncationInRange}
 use Rattle.settings.specs.Covered.{ceiling}
-use Rattle.words.specs.declared.WordRead.the-variants.{Saturated, Negative}
+use Rattle.words.specs.declared.WordRead.the-variants.{Ordinary, Saturated, Negative}
 use Rattle.words.specs.Word.{isNegative, cutBy}
 use Rattle.words.specs.Reading.{limit, meaning, readWord}
 use Rattle.words.specs.Laws.{Between, WordLaws}
@@ -33,19 +33,27 @@ module _ (r : ℕ) (in-r : truncationInRange r ≡ true) where
   unfolding readWord
   reads w = rw in-r
 
+  limits-exact : (w : ℕ) → w < 32752
+      → let lo = w * 2 ^ r in
+      let hi = (w + 1) * 2 ^ r in
+      (readWord r w ≡ Ordinary (limit lo) (limit hi)) × HasValue (limit lo) false lo 1 × HasValue (limit hi) false hi 1
+  unfolding meaning
+  limits-exact w h =
+      let b : 2 ^ r ≤ 8 = pow-mono (in-range r in-r .1) in
+      let low : w * 2 ^ r ≤ 32752 * 8 = mul-le-mul {n₂ = 32752} (omega arith) b in
+      let high : (w + 1) * 2 ^ r ≤ 32752 * 8 = mul-le-mul {n₂ = 32752} (omega arith) b in
+      (reads w ∙ rw (lt-ltb w 32752 h), exact (w * 2 ^ r) (omega arith), exact ((w + 1) * 2 ^ r) (omega arith))
+
   -- k pixels with the total v
   between : (k v : ℕ) → 0 < k → v < k * ceiling r → Between k (pos v) (readWord r (cutBy (k * 2 ^ r) (pos v)))
-  unfolding meaning
   between k v some-k h =
       let b = 2 ^ r in
       let d = k * b in
       let q = v / d in
-      let hb : b ≤ 8 = pow-mono (in-range r in-r .1) in
       let hd : 0 < d = mul-pos some-k (pow-pos r) in
       let small : q < 32752 = (div-lt-iff-lt-mul {k = d} {x = v} {y = 32752} hd) .1 (rw (mul-left-comm 32752 k b) h) in
       let kept : q % 32768 ≡ q = mod-eq-of-lt (omega arith) in
-      let low : q * b ≤ 32752 * 8 = mul-le-mul {n₂ = 32752} (omega arith) hb in
-      let high : (q + 1) * b ≤ 32752 * 8 = mul-le-mul {n₂ = 32752} (omega arith) hb in
+      let e = limits-exact q small in
       let from : k * (q * b) ≤ v = rw (mul-left-comm k q b) (div-mul-le-self v d) in
       let below : v < k * ((q + 1) * b) = rw (mul-left-comm k (q + 1) b, mul-comm (q + 1) d) (lt-mul-div-succ v hd) in
       record {
@@ -53,9 +61,9 @@ module _ (r : ℕ) (in-r : truncationInRange r ≡ true) where
         upper = limit ((q + 1) * b);
         lo = q * b;
         hi = (q + 1) * b;
-        ordinary = rw kept (reads q ∙ rw (lt-ltb q 32752 small));
-        lower-is = exact (q * b) (omega arith);
-        upper-is = exact ((q + 1) * b) (omega arith);
+        ordinary = rw kept (e .0);
+        lower-is = e .1;
+        upper-is = e .2;
         from = record { le = rw (le-leb _ _ from) tt };
         below = record { lt = rw (lt-ltb _ _ below) tt };
       }
@@ -77,6 +85,7 @@ module _ (r : ℕ) (in-r : truncationInRange r ≡ true) where
 pub laws : WordLaws
 unfolding isNegative
 laws = record {
+  limits-exact = λ r w t. limits-exact r t w;
   ordinary = λ r es t l m e h. rw (m, e) (cut r t (length es) (total es) l e h);
   saturated = λ r es n t m a b. rw m (flag r t n a b);
   negative = λ r es t m e. rw (m, e) (negative r t);

@@ -11,7 +11,8 @@ use lib.IntN.{ℤ, pos}
 use lib.ListN.{take, drop}
 use Rattle.laws.proofs.Numbers.{quarter}
 use Rattle.laws.proofs.Parts.{part-at}
-use Rattle.words.specs.Frame.{pixelsOf, wordAt, rowWord}
+use Rattle.words.specs.Frame.{pixelsOf, wordAt}
+use Rattle.words.specs.Requires.{rowWord}
 
 -- the sides: two halves to the width, and four pixels to a square
 pub sides : (w k : ℕ) → (w % 2 ≡ 0) × (k % 2 ≡ 0) → (w ≡ 2 * (w / 2)) × (w * k ≡ 4 * (k / 2 * (w / 2)))

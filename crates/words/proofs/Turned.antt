@@ -22,7 +22,7 @@ use Rattle.laws.proofs.Numbers.{less}
 use Rattle.laws.proofs.Tests.{clash, cases}
 use Rattle.entries.specs.Mark.{mark, marked, sampleOf}
 use Rattle.entries.proofs.Marks.{is-marked, sample-is, sample-none}
-use Rattle.words.specs.Word.{readable}
+use Rattle.words.specs.Requires.{readable}
 use Rattle.words.proofs.Entries.{by-kind, range, ahead}
 
 flip : (u : ℕ) → bitXor u 15 + u % 16 * 2 ≡ u + 15

@@ -25,7 +25,8 @@ use Rattle.laws.proofs.Tests.{and-true}
 use Rattle.settings.specs.Settings.{truncationInRange}
 use Rattle.entries.specs.Mark.{marked, sampleOf}
 use Rattle.entries.proofs.Marks.{is-marked, sample-is, sample-none, by-mark}
-use Rattle.words.specs.Word.{smallestMark, isNegative, cutBy, wordBy, wordOf, readable}
+use Rattle.words.specs.Word.{smallestMark, isNegative, cutBy, wordBy, wordOf}
+use Rattle.words.specs.Requires.{readable}
 use Rattle.words.proofs.Entries.{ahead, ahead-smaller, Few, few, few-smaller}
 
 pub in-range : (r : ℕ) → truncationInRange r ≡ true → (1 ≤ r) × (r ≤ 3)

@@ -2,12 +2,10 @@
 use Prim.Native.Nat.{ℕ, _+_, _*_, _/_, _%_}
 use mathlib.Core.Bool.{Bool, true, false}
 use mathlib.Core.List.{List, [], _∷_, map}
-use mathlib.Core.Path.{_≡_}
 use lib.IntN.{ℤ, pos}
 use lib.ListN.{length, getD}
 use Rattle.laws.specs.Lists.{each}
-use Rattle.settings.specs.Settings.{truncationInRange}
-use Rattle.words.specs.Word.{wordOf, readable}
+use Rattle.words.specs.Word.{wordOf}
 
 -- rows and columns are counted from 0, and pixels go row by row
 abbrev pub pixelAt : ℕ → ℕ → ℕ → ℕ
@@ -39,16 +37,3 @@ wordAt width binned r sums k = wordOf r (map (λ p. getD sums p (pos 0)) (pixels
 -- the frame of the sums, word by word
 unfoldable pub frameOf : ℕ → Bool → ℕ → List ℤ → List ℕ
 frameOf width binned r sums = each (wordAt width binned r sums) (wordCount binned (length sums))
-
--- word i of a row of squares, from its upper and its lower row of sums
-abbrev pub rowWord : ℕ → List ℤ → List ℤ → ℕ → ℕ
-rowWord r upper lower i =
-    wordOf r (getD upper (2 * i) (pos 0) ∷ getD upper (2 * i + 1) (pos 0) ∷ getD lower (2 * i) (pos 0) ∷ getD lower (2 * i + 1) (pos 0) ∷ [])
-
--- what a frame is made of: the sums of width × height pixels, each readable; room for its words; even sides if binned; and an r in range
-pub record Readable (width height : ℕ) (binned : Bool) (r : ℕ) (sums : List ℤ) (words : List ℕ) : Type 0 where
-  pub pixels : length sums ≡ width * height
-  pub room : length words ≡ wordCount binned (width * height)
-  pub even : binned ≡ true → (width % 2 ≡ 0) × (height % 2 ≡ 0)
-  pub truncation : truncationInRange r ≡ true
-  pub entries : (p : ℕ) → readable (getD sums p (pos 0)) ≡ true

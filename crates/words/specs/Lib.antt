@@ -2,4 +2,5 @@
 pub mod Word
 pub mod Frame
 pub mod Reading
+pub mod Requires
 pub mod Laws

@@ -1,13 +1,13 @@
 -- From the entries of a word's pixels, one or a square's four, to the word.
 use Prim.Native.Nat.{ℕ, _+_, _*_, _/_, _%_, _^_, min}
-use mathlib.Core.Bool.{Bool, cond, _&&_, _||_}
+use mathlib.Core.Bool.{Bool, cond}
 use mathlib.Core.List.{List, [], _∷_}
 use mathlib.Core.Option.{Option, none, some}
-use lib.IntN.{ℤ, pos, negℤ, natAbs}
+use lib.IntN.{ℤ, pos, natAbs}
 use lib.ListN.{length}
-use lib.Signed.{leZ, ltZ}
+use lib.Signed.{ltZ}
 use Rattle.laws.specs.Lists.{total}
-use Rattle.entries.specs.Mark.{mark, sampleOf}
+use Rattle.entries.specs.Mark.{sampleOf}
 
 -- the smaller of two samples, where there are two
 abbrev pub smaller : Option ℕ → Option ℕ → Option ℕ
@@ -40,9 +40,3 @@ wordBy r none sums = cond (isNegative sums) 32767 (cutOf r sums)
 -- the word of one entry, or of a square's four
 abbrev pub wordOf : ℕ → List ℤ → ℕ
 wordOf r entries = wordBy r (smallestMark entries) entries
-
--- an entry that a word can be made of: a mark of sample 1 to 9, or a sum of which four add up within 32 bits
-unfoldable pub readable : ℤ → Bool
-readable e =
-    leZ (mark 1) e && leZ e (mark 9)
-    || leZ (negℤ (pos 268435456)) e && leZ e (pos 268435456)

@@ -1,14 +1,13 @@
 // The passes over a whole frame.
 ghost use mathlib.Core.Path.{_≡_};
 ghost use mathlib.Core.Bool.{true, false};
-ghost use mathlib.Core.List.{[], _∷_};
-ghost use Prim.Native.Nat.{ℕ, _+_, _*_, _/_, _%_};
+ghost use Prim.Native.Nat.{ℕ, _*_};
 ghost use lib.IntN.{pos};
 ghost use lib.ListN.{length, getD};
 ghost use Rattle.laws.specs.Lists.{each};
 ghost use Rattle.settings.specs.Settings.{truncationInRange};
-ghost use Rattle.words.specs.Word.{readable, wordOf};
-ghost use Rattle.words.specs.Frame.{frameOf, Readable, rowWord};
+ghost use Rattle.words.specs.Frame.{frameOf};
+ghost use Rattle.words.specs.Requires.{readable, Readable, rowWord};
 use crate::word::pixel_word;
 use crate::word::square_word;
 

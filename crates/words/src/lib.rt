@@ -5,7 +5,7 @@ pub mod frame;
 pub mod reading;
 mod word;
 
-// What a word means: limits in array counts, or a flag.
+// What a word means: the limits of its sum, or a flag.
 pub enum WordRead {
     Ordinary { low: f64, high: f64 },
     Saturated(u16),

@@ -7,7 +7,8 @@ ghost use lib.IntN.{pos, negℤ, natAbs, _+ℤ_, _-ℤ_};
 ghost use lib.Signed.{_≤ℤ_, leZ, ltZ};
 ghost use Rattle.settings.specs.Settings.{truncationInRange};
 ghost use Rattle.entries.specs.Mark.{marked};
-ghost use Rattle.words.specs.Word.{readable, wordOf, cutBy};
+ghost use Rattle.words.specs.Word.{wordOf, cutBy};
+ghost use Rattle.words.specs.Requires.{readable};
 use entries::MARK;
 
 // An entry with its last four bits turned over: of two marks the earlier one is then the larger, and each sum is still below each mark.

@@ -3,7 +3,6 @@ use mathlib.Core.Path.{_≡_, _∙_}
 use Prim.Native.Nat.{ℕ, _≤_, _-_}
 use native.Mathlib.Omega.{arith}
 use borrow.Author.Needs.{needs}
-use lib.Dec.{ltb}
 use lib.IntN.{ℤ, pos}
 use lib.ListN.{length, take, getD, length-set}
 use lib.Seq.{take-all}
@@ -17,12 +16,12 @@ use Rattle.laws.proofs.Every.{every-at}
 use Rattle.laws.proofs.Over.{over-at, over-more}
 use Rattle.entries.specs.Mark.{mark}
 use Rattle.entries.specs.Possible.{readingInRange, possible}
-use Rattle.ramp.specs.Step.{ground, onGround}
+use Rattle.ramp.specs.Step.{isAbove, base, stepFrom}
 use Rattle.ramp.proofs.pass.feed_part.Statement.{statement}
 use Rattle.ramp.proofs.pass.feed_part.Tie as tie
 
 abbrev stepBy : ℕ → ℤ → ℕ → ℕ → ℤ → ℤ
-stepBy n weight threshold x e = onGround weight (ltb threshold x) (mark n) (ground n e) x
+stepBy n weight threshold x e = stepFrom weight (isAbove threshold x) (mark n) (base n e) x
 
 abbrev Inv-loop : tie.InvT-loop
 Inv-loop readings sums₀ n weight threshold i₀ sums i =

@@ -11,7 +11,7 @@ use mir.Syntax.{w32}
 use Rattle.laws.specs.Lists.{each}
 use Rattle.laws.proofs.Ints.{back}
 use Rattle.laws.proofs.Each.{each-store}
-use Rattle.words.specs.Frame.{rowWord}
+use Rattle.words.specs.Requires.{rowWord}
 use Rattle.words.proofs.frame.write_row.Statement.{statement}
 use Rattle.words.proofs.frame.write_row.Tie as tie
 

@@ -12,8 +12,8 @@ use denote.Ref.{now}
 use Rattle.laws.specs.Lists.{each}
 use Rattle.laws.proofs.Each.{each-part}
 use Rattle.laws.proofs.Parts.{part-length, part-keeps}
-use Rattle.words.specs.Word.{readable}
-use Rattle.words.specs.Frame.{wordAt, frameOf, rowWord}
+use Rattle.words.specs.Frame.{wordAt, frameOf}
+use Rattle.words.specs.Requires.{readable, rowWord}
 use Rattle.words.proofs.Squares.{sides, room, row-word}
 use Rattle.words.proofs.frame.write_squares.Statement.{statement}
 use Rattle.words.proofs.frame.write_squares.Tie as tie

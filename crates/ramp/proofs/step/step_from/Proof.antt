@@ -1,4 +1,4 @@
--- `ramp::step::on_ground` meets its contract: the sum fits, and each call says its part of the definition.
+-- `ramp::step::step_from` meets its contract: the sum fits, and each call says its part of the definition.
 use mathlib.Core.Path.{_≡_, _∙_}
 use borrow.Author.Needs.{needs}
 use lib.IntN.{ℤ, pos, _+ℤ_, _*ℤ_}
@@ -8,8 +8,8 @@ use mir.Facts.{toZ-ofZ}
 use Rattle.laws.proofs.Ints.{sum, fits, signed, back}
 use Rattle.entries.proofs.Marks.{over}
 use Rattle.ramp.proofs.Products.{product}
-use Rattle.ramp.proofs.step.on_ground.Statement.{statement}
-use Rattle.ramp.proofs.step.on_ground.Tie as tie
+use Rattle.ramp.proofs.step.step_from.Statement.{statement}
+use Rattle.ramp.proofs.step.step_from.Tie as tie
 
 module _ (c : tie.After-product) where
   abbrev s : tie.Start
@@ -36,8 +36,8 @@ returns c =
     let next = back w32 (p .pick .result) (p .pick .ok) ∙ simp (toZ-ofZ, b .before .fits .entry, b .before .fits .mark, told b, fits-sum b, a .is-above .ensures) at (p .pick .ensures) in
     rw (← over (b .before .args .entry)) (back w32 (c .pick2 .result) (c .pick2 .ok) ∙ simp (toZ-ofZ, b .before .fits .entry, next) at (c .pick2 .ensures))
 
-pub on-ground-spec : {M : Type 1} → statement M
-on-ground-spec =
+pub step-from-spec : {M : Type 1} → statement M
+step-from-spec =
     tie.close
     (tie.spec
     (λ c κs. search needs)

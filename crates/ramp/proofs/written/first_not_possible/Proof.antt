@@ -1,4 +1,4 @@
--- `ramp::stale::first_stale` meets its contract, by the two intervals.
+-- `ramp::written::first_not_possible` meets its contract, by the two intervals.
 use mathlib.Core.Bool.{Bool, not}
 use mathlib.Core.Path.{_≡_, sym, ap, _∙_}
 use Prim.Native.Nat.{ℕ, _+_, _-_, _/_, _%_, _≤_, _<_, min}
@@ -12,15 +12,15 @@ use Rattle.checks.specs.Search.{firstPlace}
 use Rattle.checks.proofs.Search.{found-start}
 use Rattle.entries.specs.Possible.{possible}
 use Rattle.ramp.proofs.Places.{place, few}
-use Rattle.ramp.proofs.Intervals.{stale-found, stale-first, stale-none}
-use Rattle.ramp.proofs.stale.first_stale.Statement.{statement}
-use Rattle.ramp.proofs.stale.first_stale.Tie as tie
+use Rattle.ramp.proofs.Intervals.{written-found, written-first, written-none}
+use Rattle.ramp.proofs.written.first_not_possible.Statement.{statement}
+use Rattle.ramp.proofs.written.first_not_possible.Tie as tie
 
 returns : tie.Need-returns
 returns c =
     let a = c .before .args in
     let l = now (a .sums) in
-    sym (stale-none (pos 0) possible (length l) (a .fed) (a .count) l (c .before .pre .0) (c .if1 .taken))
+    sym (written-none (pos 0) possible (length l) (a .fed) (a .count) l (c .before .pre .0) (c .if1 .taken))
 
 -- where the Feed brings a reading
 module _ (b : tie.Else1) where
@@ -68,7 +68,7 @@ returns-2 c =
     let x = b (c .before) in
     let a = s x .args in
     let l = now (a .sums) in
-    low (c .before) ∙ sym (stale-first (pos 0) possible (length l) (a .fed) (a .count) l (s x .pre .0) (c .if2 .taken))
+    low (c .before) ∙ sym (written-first (pos 0) possible (length l) (a .fed) (a .count) l (s x .pre .0) (c .if2 .taken))
 
 add-least : tie.Need-add-least
 add-least c = omega (arith, here (b (c .before)))
@@ -85,10 +85,10 @@ returns-3 c =
     let l = now (a .sums) in
     c .or-else .ensures
     ∙ rw (low d, rw (c .before .before .least2 .ensures) at (c .before .first-between2 .ensures))
-    (sym (stale-found (pos 0) possible (length l) (a .fed) (a .count) l (s x .pre .0) (omega arith)))
+    (sym (written-found (pos 0) possible (length l) (a .fed) (a .count) l (s x .pre .0) (omega arith)))
 
-pub first-stale-spec : {M : Type 1} → statement M
-first-stale-spec =
+pub first-not-possible-spec : {M : Type 1} → statement M
+first-not-possible-spec =
     tie.close
     (tie.spec
     returns

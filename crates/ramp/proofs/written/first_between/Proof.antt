@@ -1,4 +1,4 @@
--- `ramp::stale::first_between` meets its contract.
+-- `ramp::written::first_between` meets its contract.
 use mathlib.Core.Bool.{not}
 use mathlib.Core.Path.{_≡_, ap, _∙_}
 use Prim.Native.Nat.{_+_, _-_}
@@ -11,8 +11,8 @@ use Rattle.laws.proofs.Parts.{part-length, part-at}
 use Rattle.checks.specs.Search.{firstPlace, shifted}
 use Rattle.checks.proofs.Search.{found-same, found-below}
 use Rattle.entries.specs.Possible.{possible}
-use Rattle.ramp.proofs.stale.first_between.Statement.{statement}
-use Rattle.ramp.proofs.stale.first_between.Tie as tie
+use Rattle.ramp.proofs.written.first_between.Statement.{statement}
+use Rattle.ramp.proofs.written.first_between.Tie as tie
 
 -- what the call finds in the part, said of the whole
 module _ (c : tie.After-first-impossible) where

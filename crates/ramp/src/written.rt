@@ -1,12 +1,12 @@
 // Check 14 of Feed: of the entries that the ramp has written and that this Feed brings a reading for, the first that isn't possible.
 ghost use mathlib.Core.Path.{_≡_};
 ghost use mathlib.Core.Bool.{not};
-ghost use Prim.Native.Nat.{_+_, _*_, _-_, _≤_, _<_, min};
+ghost use Prim.Native.Nat.{_+_, _*_, _-_, _≤_, _<_};
 ghost use lib.IntN.{pos};
 ghost use lib.ListN.{length, getD};
 ghost use Rattle.checks.specs.Search.{firstPlace, shifted};
 ghost use Rattle.entries.specs.Possible.{possible};
-ghost use Rattle.ramp.specs.Stale.{staleAt};
+ghost use Rattle.ramp.specs.Written.{notPossibleAt};
 use crate::numbers::beyond;
 use crate::numbers::least;
 use checks::Found;
@@ -21,9 +21,9 @@ fn first_between(sums: &[i32], start: usize, end: usize, k: usize) -> Found
 }
 
 // The pixels before q have had c + 1 samples, and the first of them get another reading; those from q on have had c.
-pub fn first_stale(sums: &[i32], fed: usize, count: usize) -> Found
+pub fn first_not_possible(sums: &[i32], fed: usize, count: usize) -> Found
     requires { ⌜ (0 < length (now sums)) × (length (now sums) ≤ 1048576) × (fed + count ≤ 9 * length (now sums)) ⌝ }
-    ensures { λ r. ⌜ r ≡ firstPlace (length (now (sums .entry))) (staleAt (pos 0) possible (length (now (sums .entry))) fed count (now (sums .entry))) ⌝ }
+    ensures { λ r. ⌜ r ≡ firstPlace (length (now (sums .entry))) (notPossibleAt (pos 0) possible (length (now (sums .entry))) fed count (now (sums .entry))) ⌝ }
 {
     if count == 0 {
         return Found::Nothing;

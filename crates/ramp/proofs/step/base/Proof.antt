@@ -1,0 +1,14 @@
+-- `ramp::step::base` meets its contract.
+use mir.Facts.{toZ-ofZ}
+use Rattle.ramp.proofs.Steps.{base-one, base-not}
+use Rattle.ramp.proofs.step.base.Statement.{statement}
+use Rattle.ramp.proofs.step.base.Tie as tie
+
+returns : tie.Need-returns
+returns c = base-one _ _ (c .if1 .taken)
+
+returns-2 : tie.Need-returns-2
+returns-2 c = simp (toZ-ofZ, c .before .fits .entry) (base-not _ _ (c .if1 .left))
+
+pub base-spec : {M : Type 1} → statement M
+base-spec = tie.close (tie.spec returns returns-2)

@@ -1,0 +1,13 @@
+-- Check 14 of Feed: an entry written by an earlier Feed of this ramp, for which this one brings a reading, isn't possible for its k.
+use Prim.Native.Nat.{ℕ, _+_, _*_}
+use mathlib.Core.Bool.{Bool, not, _&&_}
+use mathlib.Core.List.{List}
+use lib.Dec.{leb, ltb}
+use lib.ListN.{getD}
+use Rattle.ramp.specs.Feed.{samplesWritten}
+
+-- Pixel p has had k samples, k from 1, so that its next reading is number k × m + p. This Feed brings the numbers from f to f + count − 1.
+abbrev pub notPossibleAt : {E : Type 0} → E → (ℕ → E → Bool) → ℕ → ℕ → ℕ → List E → ℕ → Bool
+notPossibleAt absent test m f count sums p =
+    let k = samplesWritten m f p in
+    leb 1 k && ltb (k * m + p) (f + count) && not (test k (getD sums p absent))
