@@ -1,36 +1,40 @@
--- The demands at every call of every list, by one induction.
---     here           at one call
---     everywhere     at every call of a list
---     lists          at every call of a list on a board that Open gave
+-- A claim about one call, at every call of every list, by one induction.
+--     Holds          it holds of any call, in any state that a list of calls leaves
+--     always         then it holds at every call of every list
+--     demand-1, demand-2, no-false-word, never-damaged     the four claims
 use Prim.Native.Nat.{ℕ}
 use mathlib.Core.Bool.{Bool}
 use mathlib.Core.List.{List, [], _∷_}
-use mathlib.Core.Path.{_≡_}
+use mathlib.Core.Path.{_≡_, refl}
 use Rattle.checks.specs.declared.Answer.the-variants.{Taken}
 use Rattle.board.specs.Open.{openOf}
 use Rattle.history.specs.Calls.{Call, Ledger, viewOf, Allowed, Moment, moments}
-use Rattle.history.specs.Demands.{Demand1, Demand2, Demand3, Honest, Every, played}
+use Rattle.history.specs.Demands.{Every, Always, Demand1, Demand2, NoFalseWord, Honest}
 use Rattle.history.proofs.Ledgers.{opened-is, answer-is, board-is, buffers-are}
 use Rattle.history.proofs.Invariant.{Good, opened-good, keeps}
 use Rattle.history.proofs.Honest.{honest}
 use Rattle.history.proofs.Frames.{frame-is, frame-claim}
 
-abbrev Here : Moment → Type 0
-Here m = Demand1 m × Demand2 m × Demand3 m × Honest m
+abbrev Holds : (Moment → Type 0) → Type 1
+Holds P = (ℓ : Ledger) (allowed : Allowed) → Good ℓ allowed → (c : Call) → P (record { ledger = ℓ; board = viewOf ℓ; allowed = allowed; call = c })
 
-here : {ℓ : Ledger} {allowed : Allowed} → Good ℓ allowed → (c : Call) → Here (record { ledger = ℓ; board = viewOf ℓ; allowed = allowed; call = c })
-here {ℓ} good c = (
-  record { answer = answer-is ℓ c; board = board-is ℓ c; buffers = buffers-are ℓ c },
-  λ sums output t. frame-is good sums output (rw (t .brings) at (t .taken)) (t .handed-on),
-  λ sums output t. frame-claim good sums output (rw (t .brings) at (t .taken)) (t .handed-on),
-  honest good c,
-)
+module _ (P : Moment → Type 0) (holds : Holds P) where
+  everywhere : (calls : List Call) {ℓ : Ledger} {allowed : Allowed} → Good ℓ allowed → Every P (moments ℓ (viewOf ℓ) allowed calls)
+  unfolding moments
+  everywhere [] good = tt
+  everywhere (c ∷ calls) {ℓ} {allowed} good = (holds ℓ allowed good c, rw (board-is ℓ c) (everywhere calls (keeps good c)))
 
-everywhere : (calls : List Call) {ℓ : Ledger} {allowed : Allowed} → Good ℓ allowed → Every Here (moments ℓ (viewOf ℓ) allowed calls)
-unfolding moments
-everywhere [] good = tt
-everywhere (c ∷ calls) {ℓ} good =
-    (here good c, rw (board-is ℓ c) (everywhere calls (keeps good c)))
+  always : Always P
+  always w h binned t calls = rw (opened-is w h binned t) (everywhere calls (opened-good w h binned t))
 
-pub lists : (w h : ℕ) (binned : Bool) → openOf w h binned .answer ≡ Taken → (calls : List Call) → Every Here (played w h binned calls)
-lists w h binned t calls = rw (opened-is w h binned t) (everywhere calls (opened-good w h binned t))
+pub demand-1 : Always Demand1
+demand-1 = always Demand1 (λ ℓ allowed good c. record { before = refl; answer = answer-is ℓ c; board = board-is ℓ c; buffers = buffers-are ℓ c })
+
+pub demand-2 : Always Demand2
+demand-2 = always Demand2 (λ ℓ allowed good c sums output t. frame-is good sums output (rw (t .brings) at (t .taken)) (t .handed-on))
+
+pub no-false-word : Always NoFalseWord
+no-false-word = always NoFalseWord (λ ℓ allowed good c sums output t. frame-claim good sums output (rw (t .brings) at (t .taken)) (t .handed-on))
+
+pub never-damaged : Always Honest
+never-damaged = always Honest (λ ℓ allowed. honest)

@@ -116,8 +116,8 @@ outcomeOf b covered = record { answer = answerOf (coverageOf b); board = b }
 -- ---- the sums of a ramp
 
 -- Which sums the ramp's next taken Feed or Read out may bring: any at the ramp's first, and then those that its last taken Feed left. What a refused call brings
--- plays no part. So a taken Start allows any sums; a taken Feed that brings sums which are allowed allows
--- from there on those that it leaves, and no others. (One that brings others allows none: that ramp is broken, and promises nothing more.)
+-- plays no part. So a taken Start allows any sums; a taken Feed that brings sums which are allowed allows from there on those that it leaves, and no others. One
+-- that brings others allows none: that ramp is broken, and until the next taken Start demands 2 and 3 say nothing. Demand 1 goes on.
 abbrev pub Allowed : Type 1
 Allowed = List ℤ → Type 0
 

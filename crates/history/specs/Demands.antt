@@ -33,6 +33,21 @@ use Rattle.board.specs.Covered.{coverageOf}
 use Rattle.history.specs.Calls.{Call, update, start, feed, readOut, drop, covered, Ledger, fresh, viewOf, refusal, next, outcomeOf, anySums, Moment, moments}
 use Rattle.history.specs.Readings.{area, words, pixels, exactSums, FirstOver, NeverOver, frameFrom}
 
+-- ---- lists
+
+-- at each call of a list
+abbrev pub Every : (Moment → Type 0) → List Moment → Type 0
+Every P [] = Unit {0}
+Every P (m ∷ ms) = P m × Every P ms
+
+-- the moments of a list of calls on a board that Open gave
+abbrev pub played : ℕ → ℕ → Bool → List Call → List Moment
+played w h binned calls = moments (fresh w h binned) (openOf w h binned .board) anySums calls
+
+-- at every call of every list, for all sides and binning that Open takes
+abbrev pub Always : (Moment → Type 0) → Type 0
+Always P = (w h : ℕ) (binned : Bool) → openOf w h binned .answer ≡ Taken → (calls : List Call) → Every P (played w h binned calls)
+
 -- ---- demand 1, at one call
 
 -- what the program writes into the buffers, in the ledger's terms; a refused call leaves them as they were
@@ -48,8 +63,10 @@ Buffers ℓ b start = Unit {0}
 Buffers ℓ b drop = Unit {0}
 Buffers ℓ b covered = Unit {0}
 
--- the program's answer is, number and place, what the ledger's checks say; after the call the board is what the ledger says; and so are the buffers
+-- the board that the call gets is what the ledger says; the program's answer is, number and place, what the ledger's checks say; after the call the board is again
+-- what the ledger says, and so are the buffers
 pub record Demand1 (m : Moment) : Type 0 where
+  pub before : m .board ≡ viewOf (m .ledger)
   pub answer : outcomeOf (m .board) (m .call) .answer ≡ refusal (m .ledger) (m .call)
   pub board : outcomeOf (m .board) (m .call) .board ≡ viewOf (next (m .ledger) (m .call))
   pub buffers : Buffers (m .ledger) (m .board) (m .call)
@@ -66,7 +83,7 @@ pub record TakenReadOut (m : Moment) (sums : List ℤ) (output : List ℕ) : Typ
 abbrev pub Demand2 : Moment → Type 0
 Demand2 m = (sums : List ℤ) (output : List ℕ) → TakenReadOut m sums output → readOutWords (m .board) sums output ≡ frameFrom (m .ledger)
 
--- ---- demand 3, at one call
+-- ---- demand 3
 
 -- what Read a word gives for the word of the pixels ps
 pub record WordClaim (ℓ : Ledger) (ps : List ℕ) (reads : WordRead) : Type 0 where
@@ -84,14 +101,14 @@ pub record FrameClaim (ℓ : Ledger) (answer : Answer) (frame : List ℕ) : Type
   pub whole : length frame ≡ words ℓ
   pub word : (j : ℕ) → j < words ℓ → WordClaim ℓ (pixels ℓ j) (readWord (ℓ .inForce .truncation) (getD frame j 0))
 
--- where Covered says "covered" of the board that the Read out gets, no word of the frame is false
-abbrev pub Demand3 : Moment → Type 0
-Demand3 m =
+-- at one call: where Covered says "covered" of the board that the Read out gets, no word of the frame is false
+abbrev pub NoFalseWord : Moment → Type 0
+NoFalseWord m =
     (sums : List ℤ) (output : List ℕ) → TakenReadOut m sums output
     → coverageOf (m .board) ≡ Covered
     → FrameClaim (m .ledger) (readOutOf (m .board) sums output .answer) (readOutWords (m .board) sums output)
 
--- demand 3's last sentence, of every sound board: "covered" exactly when no N readings at or below the threshold, one per sample, have an exact sum of
+-- the last sentence, of every sound board: "covered" exactly when no N readings at or below the threshold, one per sample, have an exact sum of
 -- 32,752 × 2^r or more
 abbrev pub CoveredExactly : Type 0
 CoveredExactly =
@@ -100,6 +117,10 @@ CoveredExactly =
     (coverageOf b ≡ Covered)
     ↔ ((reading : ℕ → ℕ) → ((n : ℕ) → 1 ≤ n → n ≤ s .samples → reading n ≤ s .threshold)
     → pos (ceiling (s .truncation)) ≤ℤ exactSum s (s .samples) reading → ⊥)
+
+pub record Demand3 : Type 0 where
+  pub frames : Always NoFalseWord
+  pub covered-exactly : CoveredExactly
 
 -- ---- an honest list is not turned away
 
@@ -115,23 +136,12 @@ NotDamaged ℓ allowed covered = Unit {0}
 abbrev pub Honest : Moment → Type 0
 Honest m = NotDamaged (m .ledger) (m .allowed) (m .call)
 
--- ---- lists
-
--- at each call of a list
-abbrev pub Every : (Moment → Type 0) → List Moment → Type 0
-Every P [] = Unit {0}
-Every P (m ∷ ms) = P m × Every P ms
+-- ---- the demands are not empty
 
 -- at some call of a list
 abbrev pub Some : (Moment → Type 0) → List Moment → Type 0
 Some P [] = ⊥
 Some P (m ∷ ms) = P m ⊎ Some P ms
-
--- the moments of a list of calls on a board that Open gave
-abbrev pub played : ℕ → ℕ → Bool → List Call → List Moment
-played w h binned calls = moments (fresh w h binned) (openOf w h binned .board) anySums calls
-
--- ---- the demands are not empty
 
 -- a taken Read out of an unbroken ramp, under the settings s, of the readings xs
 pub record ReadsOut (s : Settings) (xs : List ℕ) (m : Moment) : Type 0 where
@@ -175,11 +185,10 @@ pub record Reached (w h : ℕ) (binned : Bool) (s : Settings) (cut : List (List 
 -- ---- in one piece
 
 pub record Demands : Type 1 where
-  -- for all sides and binning that Open takes, and every list of calls: at every call of it
-  pub lists : (w h : ℕ) (binned : Bool) → openOf w h binned .answer ≡ Taken → (calls : List Call)
-      → Every (λ m. Demand1 m × Demand2 m × Demand3 m × Honest m) (played w h binned calls)
-  -- for every sound board
-  pub covered-exactly : CoveredExactly
+  pub demand-1 : Always Demand1
+  pub demand-2 : Always Demand2
+  pub demand-3 : Demand3
+  pub honest : Always Honest
   -- for all sides and binning that Open takes, all settings in range, and all N × M readings in range, in any cut into Feeds: a list reads them out
   pub reached : (w h : ℕ) (binned : Bool) → openOf w h binned .answer ≡ Taken
       → (s : Settings) → inRange s ≡ true

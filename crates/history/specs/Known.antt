@@ -4,7 +4,7 @@ use mathlib.Core.Bool.{Bool, true, false}
 use mathlib.Core.List.{List, [], _∷_}
 use mathlib.Core.Path.{_≡_}
 use lib.IntN.{ℤ, pos, negℤ}
-use lib.ListN.{replicate}
+use lib.ListN.{replicate, set}
 use Rattle.settings.specs.declared.Settings.{Settings}
 use Rattle.settings.specs.Settings.{defaults}
 use Rattle.settings.specs.Covered.{isCovered}
@@ -17,34 +17,36 @@ use Rattle.words.specs.Word.{wordOf}
 use Rattle.words.specs.Reading.{limit, readWord}
 
 -- Of one pixel's ramp: the settings and the readings; the exact sum, the entry that they leave, its word and what that reads as; and whether the settings are
--- covered. Of a square: its four entries at r = 2, its word and what that reads as.
+-- covered. Of a square: its four entries, its word at the default r, and what that reads as.
 pub data Known : Type 0 where
   ramp : (s : Settings) (readings : List ℕ) (sum entry : ℤ) (word : ℕ) (reads : WordRead) (covered : Bool) → Known
   square : (entries : List ℤ) (word : ℕ) (reads : WordRead) → Known
 
--- a row follows from the definitions; the pixel's entry held 77 before
+-- a row follows from the definitions, whatever the pixel's entry held before
 abbrev pub Holds : Known → Type 0
 Holds (ramp s readings sum entry word reads covered) =
     (exactSum s (s .samples) (readingOf 1 readings 0) ≡ sum)
-    × (sumsAfter s 0 readings (pos 77 ∷ []) ≡ entry ∷ [])
+    × ((old : ℤ) → sumsAfter s 0 readings (old ∷ []) ≡ entry ∷ [])
     × (wordOf (s .truncation) (entry ∷ []) ≡ word)
     × (readWord (s .truncation) word ≡ reads)
     × (isCovered s ≡ covered)
-Holds (square entries word reads) = (wordOf 2 entries ≡ word) × (readWord 2 word ≡ reads)
+Holds (square entries word reads) = (wordOf (defaults .truncation) entries ≡ word) × (readWord (defaults .truncation) word ≡ reads)
 
 abbrev pub AllHold : List Known → Type 0
 AllHold [] = Unit {0}
 AllHold (row ∷ rows) = Holds row × AllHold rows
 
+-- the defaults, save for the threshold
 abbrev withThreshold : ℕ → Settings
-withThreshold t = record { weights = defaults .weights; threshold = t; truncation = 2; samples = 9 }
+withThreshold t = record { weights = defaults .weights; threshold = t; truncation = defaults .truncation; samples = defaults .samples }
 
--- N = 1, with one weight
+-- the defaults, save for N = 1 and weight 1
 abbrev single : ℤ → Settings
-single w = record { weights = w ∷ replicate 8 (pos 0); threshold = 16383; truncation = 2; samples = 1 }
+single w = record { weights = set (defaults .weights) 0 w; threshold = defaults .threshold; truncation = defaults .truncation; samples = 1 }
 
+-- the defaults, save for the weights and r
 abbrev all15 : ℕ → Settings
-all15 r = record { weights = replicate 9 (pos 15); threshold = 16383; truncation = r; samples = 9 }
+all15 r = record { weights = replicate 9 (pos 15); threshold = defaults .threshold; truncation = r; samples = defaults .samples }
 
 abbrev pub table : List Known
 table =
@@ -52,6 +54,7 @@ table =
     ∷ ramp defaults (100 ∷ 200 ∷ 300 ∷ 400 ∷ 500 ∷ 600 ∷ 700 ∷ 800 ∷ 900 ∷ []) (pos 6128) (pos 6128) 1532 (Ordinary (limit 6128) (limit 6132)) false
     ∷ ramp defaults (900 ∷ 800 ∷ 700 ∷ 600 ∷ 500 ∷ 400 ∷ 300 ∷ 200 ∷ 100 ∷ []) (negℤ (pos 5872)) (negℤ (pos 5872)) 32767 Negative false
     ∷ ramp (withThreshold 13000) (13000 ∷ 13000 ∷ 13001 ∷ 13000 ∷ 13000 ∷ 13000 ∷ 13001 ∷ 13000 ∷ 13000 ∷ []) (pos 128) (mark 3) 32755 (Saturated 3) true
+    ∷ ramp (withThreshold 13000) (replicate 9 13000) (pos 128) (pos 128) 32 (Ordinary (limit 128) (limit 132)) true
     ∷ ramp (single (negℤ (pos 1))) (128 ∷ []) (pos 0) (pos 0) 0 (Ordinary (limit 0) (limit 4)) true
     ∷ ramp (single (negℤ (pos 1))) (129 ∷ []) (negℤ (pos 1)) (negℤ (pos 1)) 32767 Negative true
     ∷ ramp (all15 2) (replicate 9 16383) (pos 2211833) (pos 2211833) 28670 (Ordinary (limit 114680) (limit 114684)) false
