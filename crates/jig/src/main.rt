@@ -1,5 +1,9 @@
 // The jig: a job comes in on standard input, and its frame goes out as text, or the number of its refusal.
+ghost use mathlib.Core.Path.{_≡_};
 ghost use Prim.Native.Nat.{_≤_};
+ghost use lib.ListN.{length};
+ghost use Rattle.io.specs.Counts.{Counts};
+ghost use Rattle.job.specs.Input.{capacity};
 use checks::Answer;
 use job::Job;
 use libc::STDIN_FILENO;
@@ -74,9 +78,17 @@ fn show(job: Job) {
     }
 }
 
+// Reads as much of the input as can matter, and answers how many bytes that is.
+fn kept_of(input: &mut [u8]) -> usize
+    requires { ⌜ length (now input) ≡ capacity ⌝ }
+    ensures { λ r. ⌜ Counts r (now (input .exit)) ⌝ }
+{
+    io::read_full(STDIN_FILENO, input)
+}
+
 fn main() {
-    let mut input = [0u8; 18695];
-    let kept = io::read_full(STDIN_FILENO, &mut input);
+    let mut input = [0u8; job::CAPACITY];
+    let kept = kept_of(&mut input);
     let rest = drained();
     show(job::run::run(&input[..kept], kept + rest));
 }

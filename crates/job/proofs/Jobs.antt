@@ -3,7 +3,7 @@
 --     few-words, zeros   of the buffers
 --     input-checks, few-pixels     the checks of an input, one after the other, and what 18 has shown
 --     answer-is, words-are         what comes of a job, from the first of its readings
---     overlong-is, overlong-none   and where its record is too long
+--     overlong-is, overlong-refused     and where its record is too long
 --     turned-down, carried         the result of a refused job, and of a taken one
 use Prim.Native.Nat.{ℕ, zero, suc, _+_, _*_, _%_, _≤_, _<_}
 use mathlib.Core.Bool.{Bool, true, false, not}
@@ -124,9 +124,9 @@ module _ (bytes : List ℕ) (total : ℕ) where
     pub overlong-is : jobAnswer bytes total ≡ first (verdict (inputChecks bytes total)) (overlongAnswer (widthOf bytes) (heightOf bytes) (isBinned bytes) (mapOf (recordOf bytes)))
     overlong-is = chain ∙ rw (overlong-answer (widthOf bytes) (heightOf bytes) (isBinned bytes) (recordOf bytes) (zeroSums bytes) (zeroWords bytes) long (readingsOf bytes))
 
-    pub overlong-none : jobWords bytes total ≡ []
-    unfolding jobWords verdict
-    overlong-none = rw overlong-is (refused-last (verdict (inputChecks bytes total) ∷ overlongChecks (widthOf bytes) (heightOf bytes) (isBinned bytes) (mapOf (recordOf bytes))) (refusal 4) _ [])
+    pub overlong-refused : {A : Type 0} (new old : A) → byAnswer (jobAnswer bytes total) new old ≡ old
+    unfolding verdict
+    overlong-refused new old = rw overlong-is (refused-last (verdict (inputChecks bytes total) ∷ overlongChecks (widthOf bytes) (heightOf bytes) (isBinned bytes) (mapOf (recordOf bytes))) (refusal 4) new old)
 
   pub turned-down : (r : Refusal) → jobAnswer bytes total ≡ Refused r → Result bytes total (refusedJob (Refused r))
   unfolding jobWords

@@ -1,7 +1,7 @@
 -- The laws of jobs.
 use Prim.Native.Nat.{ℕ, _+_, _-_, _*_, _≤_, _<_}
-use mathlib.Core.List.{List}
-use mathlib.Core.Path.{_≡_, refl, sym, _∙_}
+use mathlib.Core.List.{List, []}
+use mathlib.Core.Path.{_≡_, refl, sym, ap, _∙_}
 use borrow.Author.Tests.{ltb-true, ltb-false}
 use native.Mathlib.Omega.{arith}
 use lib.Dec.{ltb}
@@ -9,12 +9,14 @@ use lib.ListN.{length, getD, take, drop, length-take, length-drop}
 use lib.Seq.{take-all, getD-take, take-take}
 use Rattle.laws.proofs.Tests.{cases}
 use Rattle.laws.proofs.Parts.{part-at}
-use Rattle.frame.specs.Chain.{frameAnswer, frameWords}
+use Rattle.checks.specs.Checks.{byAnswer}
+use Rattle.frame.specs.Chain.{started, frameAnswer, frameWords}
+use Rattle.job.specs.declared.Job.{Job}
 use Rattle.job.specs.Input.{widthOf, heightOf, binnedByte, isBinned, recordLength, recordOf, readingsAt, pairs, maxReadings, capacity}
-use Rattle.job.specs.Job.{inputChecks, zeroSums, zeroWords, jobAnswer, jobWords}
+use Rattle.job.specs.Job.{inputChecks, zeroSums, zeroWords, jobAnswer, jobWords, truncationOf, Result}
 use Rattle.job.specs.Laws.{JobLaws}
 use Rattle.job.proofs.Pairs.{drop-take, pairs-take}
-use Rattle.job.proofs.Jobs.{Handed, handed, firstReadings, answer-is, words-are, overlong-is, overlong-none}
+use Rattle.job.proofs.Jobs.{Handed, handed, firstReadings, answer-is, words-are, overlong-is, overlong-refused}
 
 -- the first readings lie in the first bytes
 within : (n m : ℕ) (l : List ℕ) → 2 * n ≤ m → take n (pairs (take m l)) ≡ take n (pairs l)
@@ -40,8 +42,11 @@ module _ (bytes : List ℕ) (total n : ℕ) (room : capacity ≤ n) where
   same-checks : inputChecks (take n bytes) total ≡ inputChecks bytes total
   same-checks = rw (width-is, height-is, flag-is, size-is)
 
-  abbrev Same : Type 0
-  Same = (jobAnswer (take n bytes) total ≡ jobAnswer bytes total) × (jobWords (take n bytes) total ≡ jobWords bytes total)
+  -- all that a result says, beside what the first bytes show
+  record Same : Type 0 where
+    pub answer : jobAnswer (take n bytes) total ≡ jobAnswer bytes total
+    pub words : jobWords (take n bytes) total ≡ jobWords bytes total
+    pub truncation : byAnswer (jobAnswer bytes total) (truncationOf (take n bytes)) 0 ≡ byAnswer (jobAnswer bytes total) (truncationOf bytes) 0
 
   -- the length of the record is a byte: what matters lies in the first n
   module _ (small : recordLength bytes ≤ 255) where
@@ -59,7 +64,11 @@ module _ (bytes : List ℕ) (total n : ℕ) (room : capacity ≤ n) where
     byte-record : Same
     byte-record =
         let e : jobAnswer (take n bytes) total ≡ jobAnswer bytes total = answer-is (take n bytes) total ∙ rw (same-checks, handed frameAnswer front) (sym (answer-is bytes total)) in
-        (e, words-are (take n bytes) total ∙ rw (e, handed frameWords front) (sym (words-are bytes total)))
+        record {
+          answer = e;
+          words = words-are (take n bytes) total ∙ rw (e, handed frameWords front) (sym (words-are bytes total));
+          truncation = rw (handed (λ w h binned part readings sums words. started w h binned part .board .«in_force» .truncation) front);
+        }
 
   -- any other record is refused
   module _ (large : 255 < recordLength bytes) (more : n < length bytes) where
@@ -76,20 +85,31 @@ module _ (bytes : List ℕ) (total n : ℕ) (room : capacity ≤ n) where
     long-front = rw (size-is, length-take (recordLength bytes) (drop 6 (take n bytes)), length-drop 6 (take n bytes), length-take n bytes) (omega arith)
 
     long-record : Same
-    long-record = (
-      overlong-is (take n bytes) total long-front
-          ∙ rw (same-checks, record-at 0 (omega arith), record-at 1 (omega arith), width-is, height-is, flag-is) (sym (overlong-is bytes total long)),
-      overlong-none (take n bytes) total long-front ∙ sym (overlong-none bytes total long),
-    )
+    unfolding jobWords
+    long-record = record {
+      answer =
+          overlong-is (take n bytes) total long-front
+          ∙ rw (same-checks, record-at 0 (omega arith), record-at 1 (omega arith), width-is, height-is, flag-is) (sym (overlong-is bytes total long));
+      words = overlong-refused (take n bytes) total long-front _ [] ∙ sym (overlong-refused bytes total long _ []);
+      truncation = overlong-refused bytes total long _ 0 ∙ sym (overlong-refused bytes total long _ 0);
+    }
 
   settled : Same
   settled =
       cases (ltb n (length bytes))
       (λ m. cases (ltb 255 (recordLength bytes)) (λ e. long-record (ltb-true _ _ e) (ltb-true _ _ m)) (λ e. byte-record (ltb-false _ _ e)))
-      (λ m. rw (take-all n bytes (ltb-false _ _ m)) (refl, refl))
+      (λ m. let e = take-all n bytes (ltb-false _ _ m) in record { answer = rw e; words = rw e; truncation = rw e })
+
+  carried-over : (job : Job) → Result (take n bytes) total job → Result bytes total job
+  carried-over job r =
+      let s = settled in
+      record {
+        answer = r .answer ∙ s .answer;
+        words = r .words ∙ s .words;
+        count = r .count ∙ ap length (s .words);
+        columns = rw (s .answer, width-is, flag-is) at (r .columns);
+        truncation = r .truncation ∙ rw (s .answer) (s .truncation);
+      }
 
 pub laws : JobLaws
-laws = record {
-  prefix-answer = λ bytes. settled bytes (length bytes) capacity (omega arith) .0;
-  prefix-words = λ bytes. settled bytes (length bytes) capacity (omega arith) .1;
-}
+laws = record { prefix = λ bytes. carried-over bytes (length bytes) capacity (omega arith) }

@@ -38,12 +38,14 @@ pairs (low ∷ high ∷ bytes) = (low + 256 * high) ∷ pairs bytes
 abbrev pub readingsOf : List ℕ → List ℕ
 readingsOf bytes = pairs (drop (readingsAt bytes) bytes)
 
--- how much of an input matters: a record of 255 bytes, and one reading more than the largest job wants
+-- the most pixels of a job
 abbrev pub maxPixels : ℕ
 maxPixels = 1024
 
+-- one reading more than the largest job wants
 abbrev pub maxReadings : ℕ
 maxReadings = 9 * maxPixels + 1
 
+-- how much of an input matters: the six bytes, a record of 255 bytes, and these readings
 abbrev pub capacity : ℕ
 capacity = 6 + 255 + 2 * maxReadings

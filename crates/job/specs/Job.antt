@@ -64,9 +64,10 @@ truncationOf bytes = started (widthOf bytes) (heightOf bytes) (isBinned bytes) (
 
 -- what stands for a refused job
 abbrev pub refusedJob : Answer → Job
-refusedJob answer = record { answer = answer; count = 0; columns = 0; truncation = 0; words = replicate 1024 0 }
+refusedJob answer = record { answer = answer; count = 0; columns = 0; truncation = 0; words = replicate maxPixels 0 }
 
--- a job's result: the answer; the words, of which there are `count`; and, of a taken job, the words in a row and the r in force
+-- A job's result: the answer; the words, of which there are `count`; and, of a taken job, the words in a row and the r in force. What stands in the array past
+-- the first `count` words is left free: the jig prints none of it.
 pub record Result (bytes : List ℕ) (total : ℕ) (job : Job) : Type 0 where
   pub answer : job .answer ≡ jobAnswer bytes total
   pub words : take (job .count) (job .words) ≡ jobWords bytes total

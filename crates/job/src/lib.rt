@@ -4,11 +4,20 @@ use checks::Answer;
 mod bytes;
 pub mod run;
 
+// The most pixels of a job.
+pub(crate) const PIXELS: usize = 1024;
+
+// One reading more than the largest job wants: a reading too many is still seen.
+pub(crate) const READINGS: usize = 9 * PIXELS + 1;
+
+// How much of an input matters: six bytes, a record of 255 bytes, and these readings.
+pub const CAPACITY: usize = 6 + 255 + 2 * READINGS;
+
 // What comes of a job. The words are the first `count` of the array.
 pub struct Job {
     pub answer: Answer,
     pub count: usize,
     pub columns: usize,
     pub truncation: u16,
-    pub words: [u16; 1024],
+    pub words: [u16; PIXELS],
 }

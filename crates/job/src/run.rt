@@ -9,6 +9,8 @@ ghost use Rattle.frame.specs.Chain.{started};
 ghost use Rattle.job.specs.Input.{maxPixels};
 ghost use Rattle.job.specs.Job.{area, inputChecks, refusedJob, Result};
 use crate::Job;
+use crate::PIXELS;
+use crate::READINGS;
 use crate::bytes::decode;
 use board::Board;
 use checks::Answer;
@@ -31,7 +33,7 @@ fn check_input(input: &[u8], total: usize) -> Answer
     let odd = Answer::when((total % 2 + start % 2) % 2 == 1, checks::INPUT);
     let opened = Board::open(width, height, binned == 1);
     let sides = opened.answer;
-    let pixels = Answer::when(width * height > 1024, checks::TOO_MANY_PIXELS);
+    let pixels = Answer::when(width * height > PIXELS, checks::TOO_MANY_PIXELS);
     short.then(flag.then(record.then(odd.then(sides.then(pixels)))))
 }
 
@@ -70,7 +72,7 @@ fn refused(answer: Answer) -> Job
         count: 0,
         columns: 0,
         truncation: 0,
-        words: [0u16; 1024],
+        words: [0u16; PIXELS],
     }
 }
 
@@ -86,10 +88,10 @@ fn carry_out(input: &[u8]) -> Job
     let count = word_count(binned, pixels);
     let from = least(6, input.len());
     let start = least(6 + byte(input, 5) as usize, input.len());
-    let fed = least((input.len() - start) / 2, 9217);
-    let mut readings = [0u16; 9217];
-    let mut sums = [0i32; 1024];
-    let mut words = [0u16; 1024];
+    let fed = least((input.len() - start) / 2, READINGS);
+    let mut readings = [0u16; READINGS];
+    let mut sums = [0i32; PIXELS];
+    let mut words = [0u16; PIXELS];
     decode(&input[start..start + 2 * fed], &mut readings[..fed]);
     let answer = frame_of(
         width,
