@@ -2,3 +2,6 @@
 pub mod Whole
 pub mod Enough
 pub mod Stepping
+pub mod Parts
+pub mod Calls
+pub mod Laws

@@ -30,7 +30,7 @@ module _ (w h : ℕ) (binned : Bool) (bytes : List ℕ) where
       → verdict (openOf w h binned .answer ∷ updated w h binned bytes .answer ∷ started w h binned bytes .answer ∷ l) ≡ first (begun w h binned bytes .answer) (verdict l)
   begun-then l = verdict-append (openOf w h binned .answer ∷ updated w h binned bytes .answer ∷ started w h binned bytes .answer ∷ []) l
 
-  begun-sound : begun w h binned bytes .answer ≡ Taken → sound (started w h binned bytes .board) ≡ true
+  pub begun-sound : begun w h binned bytes .answer ≡ Taken → sound (started w h binned bytes .board) ≡ true
   unfolding verdict
   begun-sound t =
       BoardLaws.laws .stays-sound .start (updated w h binned bytes .board)

@@ -2,12 +2,8 @@
 --     Holds          it holds of any call, in any state that a list of calls leaves
 --     always         then it holds at every call of every list
 --     demand-1, demand-2, no-false-word, never-damaged     the four claims
-use Prim.Native.Nat.{ℕ}
-use mathlib.Core.Bool.{Bool}
 use mathlib.Core.List.{List, [], _∷_}
-use mathlib.Core.Path.{_≡_, refl}
-use Rattle.checks.specs.declared.Answer.the-variants.{Taken}
-use Rattle.board.specs.Open.{openOf}
+use mathlib.Core.Path.{refl}
 use Rattle.history.specs.Calls.{Call, Ledger, viewOf, Allowed, Moment, moments}
 use Rattle.history.specs.Demands.{Every, Always, Demand1, Demand2, NoFalseWord, Honest}
 use Rattle.history.proofs.Ledgers.{opened-is, answer-is, board-is, buffers-are}
