@@ -118,6 +118,7 @@ CoveredExactly =
     ↔ ((reading : ℕ → ℕ) → ((n : ℕ) → 1 ≤ n → n ≤ s .samples → reading n ≤ s .threshold)
     → pos (ceiling (s .truncation)) ≤ℤ exactSum s (s .samples) reading → ⊥)
 
+-- in one piece
 pub record Demand3 : Type 0 where
   pub frames : Always NoFalseWord
   pub covered-exactly : CoveredExactly
@@ -182,7 +183,7 @@ pub record Reached (w h : ℕ) (binned : Bool) (s : Settings) (cut : List (List 
   pub feeds : fedBy calls ≡ cut
   pub reads-out : Some (ReadsOut s (joined cut)) (played w h binned calls)
 
--- ---- in one piece
+-- ---- all demands
 
 pub record Demands : Type 1 where
   pub demand-1 : Always Demand1
