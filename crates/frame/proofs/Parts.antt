@@ -20,7 +20,7 @@ use Rattle.ramp.specs.Step.{step}
 use Rattle.ramp.specs.Feed.{feedAll}
 use Rattle.ramp.proofs.Feeding.{feed-length, feed-append}
 use Rattle.ramp.proofs.Agrees.{agrees-none}
-use Rattle.ramp.proofs.Honest.{never-stale}
+use Rattle.ramp.proofs.Honest.{never-damaged}
 use Rattle.board.specs.declared.Board.{Board}
 use Rattle.board.specs.Board.{wanted}
 use Rattle.board.specs.Ramp.{feedChecks, feedOf, fedSums, readOutChecks, readOutOf, readOutWords}
@@ -107,7 +107,7 @@ module _ (w h : ℕ) (binned : Bool) (bytes : List ℕ) where
           ramp = record { whole = whole; running = r .ramp .running; length-is = size ∙ r .ramp .length-is };
           room = omega (arith, none, full);
           readings = parts-readings parts 0 sums taken;
-          stale = rw none (never-stale (b .«in_force») (p .in-force) (length sums) some [] refl (omega arith) sums (agrees-none (b .«in_force») (p .in-force) (length sums) some sums refl) (length xs));
+          entries = rw none (never-damaged (b .«in_force») (p .in-force) (length sums) some [] refl (omega arith) sums (agrees-none (b .«in_force») (p .in-force) (length sums) some sums refl) (length xs));
         })
 
     feed-answer : fed b xs sums .answer ≡ Taken
