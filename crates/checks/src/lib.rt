@@ -1,7 +1,5 @@
 // What an operation answers, and the refusals' numbers.
 ghost use mathlib.Core.Path.{_≡_};
-ghost use Prim.Native.Nat.{ℕ, _+_, _^_, _<_};
-ghost use Rattle.checks.specs.Search as Search;
 ghost use Rattle.checks.specs.Search.{orElse};
 ghost use Rattle.checks.specs.Checks as Def;
 
@@ -78,17 +76,6 @@ impl Found {
         match self {
             Found::At(_) => self,
             Found::Nothing => other,
-        }
-    }
-
-    // A place of a part, as a place of the whole.
-    pub fn shifted(self, start: usize) -> Found
-        requires { ⌜ ((p : ℕ) → self ≡ Found.At p → start + p < 2 ^ 64) ⌝ }
-        ensures { λ r. ⌜ r ≡ Search.shifted start self ⌝ }
-    {
-        match self {
-            Found::At(p) => Found::At(start + p),
-            Found::Nothing => self,
         }
     }
 }

@@ -1,10 +1,11 @@
 // Check 14 of Feed: of the entries that the ramp has written and that this Feed brings a reading for, the first that isn't possible.
 ghost use mathlib.Core.Path.{_≡_};
 ghost use mathlib.Core.Bool.{not};
-ghost use Prim.Native.Nat.{_+_, _*_, _-_, _≤_, _<_};
+ghost use Prim.Native.Nat.{ℕ, _+_, _*_, _-_, _^_, _≤_, _<_};
 ghost use lib.IntN.{pos};
 ghost use lib.ListN.{length, getD};
-ghost use Rattle.checks.specs.Search.{firstPlace, shifted};
+ghost use Rattle.checks.specs.Search as Search;
+ghost use Rattle.checks.specs.Search.{firstPlace};
 ghost use Rattle.entries.specs.Possible.{possible};
 ghost use Rattle.ramp.specs.Written.{notPossibleAt};
 use crate::numbers::beyond;
@@ -12,12 +13,23 @@ use crate::numbers::least;
 use checks::Found;
 use entries::first_impossible;
 
+// A place of a part, as a place of the whole.
+fn shifted(found: Found, start: usize) -> Found
+    requires { ⌜ ((p : ℕ) → found ≡ Found.At p → start + p < 2 ^ 64) ⌝ }
+    ensures { λ r. ⌜ r ≡ Search.shifted start found ⌝ }
+{
+    match found {
+        Found::At(p) => Found::At(start + p),
+        Found::Nothing => found,
+    }
+}
+
 // The first from `start` to `end` that isn't possible for k.
 fn first_between(sums: &[i32], start: usize, end: usize, k: usize) -> Found
     requires { ⌜ (start ≤ end) × (end ≤ length (now sums)) × (k ≤ 9) ⌝ }
-    ensures { λ r. ⌜ r ≡ shifted start (firstPlace (end - start) (λ i. not (possible k (getD (now (sums .entry)) (start + i) (pos 0))))) ⌝ }
+    ensures { λ r. ⌜ r ≡ Search.shifted start (firstPlace (end - start) (λ i. not (possible k (getD (now (sums .entry)) (start + i) (pos 0))))) ⌝ }
 {
-    first_impossible(&sums[start..end], k).shifted(start)
+    shifted(first_impossible(&sums[start..end], k), start)
 }
 
 // The pixels before q have had c + 1 samples, and the first of them get another reading; those from q on have had c.
