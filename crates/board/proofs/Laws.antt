@@ -11,7 +11,7 @@ use lib.ListN.{length}
 use Rattle.laws.specs.Lists.{every}
 use Rattle.settings.specs.declared.Settings.{Settings}
 use Rattle.settings.specs.Record.{fieldCount}
-use Rattle.settings.specs.Update as Record
+use Rattle.settings.specs.Update as SettingsUpdate
 use Rattle.settings.proofs.Parts.{InRange, in-range-parts, in-range-whole}
 use Rattle.settings.proofs.Laws as SettingsLaws
 use Rattle.checks.specs.declared.Refusal.{Refusal}
@@ -56,16 +56,16 @@ waiting-sound : (b : Board) (t : Settings) → InRange t → Sound b → Sound (
 waiting-sound b t r s = record { sides = s .sides; waiting = r; in-force = s .in-force; fed = s .fed; idle = s .idle }
 
 -- the settings of a taken record are in range
-resulting-in-range : (s : Settings) (bytes : List ℕ) → InRange s → verdict (Record.updateChecks bytes) ≡ Taken → InRange (Record.resulting bytes fieldCount s)
-unfolding Record.updateOf
+resulting-in-range : (s : Settings) (bytes : List ℕ) → InRange s → verdict (SettingsUpdate.updateChecks bytes) ≡ Taken → InRange (SettingsUpdate.resulting bytes fieldCount s)
+unfolding SettingsUpdate.updateOf
 resulting-in-range s bytes r e =
     in-range-parts _ (rw e at (SettingsLaws.laws .stays-in-range s bytes (in-range-whole s r)))
 
 update-sound : (b : Board) (bytes : List ℕ) → sound (updateOf b bytes .board) ≡ sound b
 unfolding updateOf verdict
 update-sound b bytes =
-    stays b _ (Record.updateChecks bytes)
-    (λ s e. waiting-sound b _ (resulting-in-range (b .waiting) bytes (s .waiting) (both-taken (unsound b) (verdict (Record.updateChecks bytes)) e .1)) s)
+    stays b _ (SettingsUpdate.updateChecks bytes)
+    (λ s e. waiting-sound b _ (resulting-in-range (b .waiting) bytes (s .waiting) (both-taken (unsound b) (verdict (SettingsUpdate.updateChecks bytes)) e .1)) s)
 
 feed-sound : (b : Board) (xs : List ℕ) (sums : List ℤ) → sound (feedOf b xs sums .board) ≡ sound b
 unfolding feedOf
@@ -171,7 +171,7 @@ laws = record {
     read-out = λ b sums output. same-sides (verdict (readOutChecks b sums output)) b (ended b) (refl, refl, refl);
     drop = λ b. same-sides (verdict (dropChecks b)) b (ended b) (refl, refl, refl);
   };
-  update-waiting = λ b bytes. update-waiting (verdict (updateChecks b bytes)) b (Record.resulting bytes fieldCount (b .waiting));
+  update-waiting = λ b bytes. update-waiting (verdict (updateChecks b bytes)) b (SettingsUpdate.resulting bytes fieldCount (b .waiting));
   start-in-force = λ b e. start-in-force (verdict (startChecks b)) b e;
   start-refused = λ b r e. start-refused (verdict (startChecks b)) b r e;
   feed-keeps = λ b xs sums. same-settings (verdict (feedChecks b xs sums)) b (extended (length xs) b) (refl, refl);

@@ -74,4 +74,4 @@ ended b = record { width = b .width; height = b .height; binned = b .binned; wai
 
 -- a taken operation leaves a new board, a refused one the board as it was
 abbrev pub leaves : Answer → Board → Board → Outcome
-leaves answer old new = record { answer = answer; board = byAnswer answer new old }
+leaves answer new old = record { answer = answer; board = byAnswer answer new old }

@@ -17,4 +17,4 @@ abbrev pub noBoard : Board
 noBoard = opened 0 0 false
 
 unfoldable pub openOf : ℕ → ℕ → Bool → Outcome
-openOf width height binned = leaves (verdict (openChecks width height binned)) noBoard (opened width height binned)
+openOf width height binned = leaves (verdict (openChecks width height binned)) (opened width height binned) noBoard

@@ -22,7 +22,7 @@ abbrev pub startChecks : Board → List Answer
 startChecks b = unsound b ∷ when (b .running) 9 ∷ []
 
 unfoldable pub startOf : Board → Outcome
-startOf b = leaves (verdict (startChecks b)) b (begun b)
+startOf b = leaves (verdict (startChecks b)) (begun b) b
 
 -- ---- what Feed and Read out begin with. 10: no ramp is running. 11: there isn't one sum for each pixel
 
@@ -44,7 +44,7 @@ abbrev pub feedChecks : Board → List ℕ → List ℤ → List Answer
 feedChecks b readings sums = rampChecks b (length sums) ++ readingChecks b readings sums
 
 unfoldable pub feedOf : Board → List ℕ → List ℤ → Outcome
-feedOf b readings sums = leaves (verdict (feedChecks b readings sums)) b (extended (length readings) b)
+feedOf b readings sums = leaves (verdict (feedChecks b readings sums)) (extended (length readings) b) b
 
 -- the sums as Feed leaves them
 unfoldable pub fedSums : Board → List ℕ → List ℤ → List ℤ
@@ -66,7 +66,7 @@ abbrev pub readOutChecks : Board → List ℤ → List ℕ → List Answer
 readOutChecks b sums output = rampChecks b (length sums) ++ outputChecks b sums (length output)
 
 unfoldable pub readOutOf : Board → List ℤ → List ℕ → Outcome
-readOutOf b sums output = leaves (verdict (readOutChecks b sums output)) b (ended b)
+readOutOf b sums output = leaves (verdict (readOutChecks b sums output)) (ended b) b
 
 -- the output as Read out leaves it; the sums are only read
 unfoldable pub readOutWords : Board → List ℤ → List ℕ → List ℕ
@@ -79,4 +79,4 @@ abbrev pub dropChecks : Board → List Answer
 dropChecks b = unsound b ∷ when (not (b .running)) 10 ∷ []
 
 unfoldable pub dropOf : Board → Outcome
-dropOf b = leaves (verdict (dropChecks b)) b (ended b)
+dropOf b = leaves (verdict (dropChecks b)) (ended b) b

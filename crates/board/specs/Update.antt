@@ -2,7 +2,7 @@
 use Prim.Native.Nat.{ℕ}
 use mathlib.Core.List.{List, _∷_}
 use Rattle.settings.specs.Record.{fieldCount}
-use Rattle.settings.specs.Update as Record
+use Rattle.settings.specs.Update as SettingsUpdate
 use Rattle.settings.specs.Update.{resulting}
 use Rattle.checks.specs.declared.Answer.{Answer}
 use Rattle.checks.specs.Checks.{verdict}
@@ -12,8 +12,8 @@ use Rattle.board.specs.Board.{unsound, withWaiting, leaves}
 
 -- 99, then the record's own checks, 2 to 8
 abbrev pub updateChecks : Board → List ℕ → List Answer
-updateChecks b bytes = unsound b ∷ Record.updateChecks bytes
+updateChecks b bytes = unsound b ∷ SettingsUpdate.updateChecks bytes
 
 -- only the waiting settings change, in the fields that the record names
 unfoldable pub updateOf : Board → List ℕ → Outcome
-updateOf b bytes = leaves (verdict (updateChecks b bytes)) b (withWaiting (resulting bytes fieldCount (b .waiting)) b)
+updateOf b bytes = leaves (verdict (updateChecks b bytes)) (withWaiting (resulting bytes fieldCount (b .waiting)) b) b

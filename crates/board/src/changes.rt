@@ -67,8 +67,8 @@ impl Board {
 }
 
 // A taken operation leaves a new board, a refused one the board as it was.
-pub fn leaves(answer: Answer, old: Board, new: Board) -> Outcome
-    ensures { λ r. ⌜ r ≡ Def.leaves answer old new ⌝ }
+pub fn leaves(answer: Answer, new: Board, old: Board) -> Outcome
+    ensures { λ r. ⌜ r ≡ Def.leaves answer new old ⌝ }
 {
     match answer {
         Answer::Taken => Outcome {

@@ -6,8 +6,8 @@ use settings::Settings;
 mod changes;
 mod feed;
 mod read_out;
-mod settled;
 mod sound;
+mod without_sums;
 
 pub struct Board {
     pub width: usize,

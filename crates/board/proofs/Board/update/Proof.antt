@@ -3,7 +3,7 @@ use mathlib.Core.Path.{_≡_, refl}
 use borrow.Author.Needs.{needs}
 use denote.Ref.{now}
 use Rattle.settings.specs.Record.{fieldCount}
-use Rattle.settings.specs.Update as Record
+use Rattle.settings.specs.Update as SettingsUpdate
 use Rattle.checks.specs.declared.Answer.{Answer}
 use Rattle.checks.specs.declared.Answer.the-variants.{Taken, Refused}
 use Rattle.checks.specs.Checks.{first, verdict, byAnswer}
@@ -15,20 +15,20 @@ use Rattle.board.proofs.Board.update.Statement.{statement}
 use Rattle.board.proofs.Board.update.Tie as tie
 
 -- a taken update leaves the record's settings waiting, whatever a refused one would have left
-only-taken : (a r : Answer) (b : Board) (new old : Settings) → leaves (first a r) b (withWaiting (byAnswer r new old) b) ≡ leaves (first a r) b (withWaiting new b)
+only-taken : (a r : Answer) (b : Board) (new old : Settings) → leaves (first a r) (withWaiting (byAnswer r new old) b) b ≡ leaves (first a r) (withWaiting new b) b
 only-taken Taken Taken b new old = refl
 only-taken Taken (Refused x) b new old = refl
 only-taken (Refused x) r b new old = refl
 
 returns : tie.Need-returns
-unfolding updateOf Record.updateOf verdict
+unfolding updateOf SettingsUpdate.updateOf verdict
 returns c =
     let t = c .before .before in
     let u = t .before .before .before in
     let b = u .before .before .before .args .self in
     let bytes = now (u .before .before .before .args .bytes) in
     rw (c .leaves .ensures, c .before .with-waiting .ensures, t .then .ensures, t .before .check-sound .ensures, u .update .ensures)
-    (only-taken (unsound b) (verdict (Record.updateChecks bytes)) b (Record.resulting bytes fieldCount (b .waiting)) (b .waiting))
+    (only-taken (unsound b) (verdict (SettingsUpdate.updateChecks bytes)) b (SettingsUpdate.resulting bytes fieldCount (b .waiting)) (b .waiting))
 
 pub update-spec : {M : Type 1} → statement M
 update-spec = tie.close (tie.spec (λ c κs. search needs) (λ c κs. search needs) (λ c κs. search needs) (λ c κs. search needs) (λ c κs. search needs) returns)

@@ -20,8 +20,8 @@ impl Board {
         let answer = Answer::when(!sides_taken(width, height, binned), checks::SIDES);
         leaves(
             answer,
-            Board::opened(0, 0, false),
             Board::opened(width, height, binned),
+            Board::opened(0, 0, false),
         )
     }
 
@@ -35,8 +35,8 @@ impl Board {
         let settings = u.settings;
         leaves(
             self.check_sound().then(record),
-            self,
             self.with_waiting(settings),
+            self,
         )
     }
 
@@ -45,7 +45,7 @@ impl Board {
         ensures { λ r. ⌜ r ≡ startOf self ⌝ }
     {
         let running = Answer::when(self.running, checks::RAMP_RUNNING);
-        leaves(self.check_sound().then(running), self, self.begun())
+        leaves(self.check_sound().then(running), self.begun(), self)
     }
 
     // Drop: the ramp ends with no frame.
@@ -53,7 +53,7 @@ impl Board {
         ensures { λ r. ⌜ r ≡ dropOf self ⌝ }
     {
         let idle = Answer::when(!self.running, checks::NO_RAMP);
-        leaves(self.check_sound().then(idle), self, self.ended())
+        leaves(self.check_sound().then(idle), self.ended(), self)
     }
 
     // Covered: whether the settings in force are covered.
