@@ -18,7 +18,7 @@ use Rattle.laws.proofs.Tests.{cases}
 use Rattle.laws.proofs.Ints.{up, dn, sum, times-up, signed}
 use Rattle.laws.proofs.Firsts.{Nowhere}
 use Rattle.settings.specs.declared.Settings.{Settings}
-use Rattle.settings.specs.Settings.{weightInRange, weightAt}
+use Rattle.settings.specs.Settings.{maxThreshold, weightInRange, weightAt}
 use Rattle.settings.specs.Covered.{positivePart, positives, reach, ceiling, isCovered}
 use Rattle.settings.proofs.Parts.{InRange}
 use Rattle.ramp.specs.Step.{overIt}
@@ -105,5 +105,5 @@ positives-le s r (suc k) =
 
 pub below-marks : (s : Settings) → InRange s → (x : ℕ → ℕ) (k : ℕ) → Low s k x → let z = exactSum s k x in up z < dn z + 1073741825
 below-marks s r x k l =
-    let a : positives s k * s .threshold ≤ 135 * 16383 = mul-le-mul {n₂ = 135} (omega (arith, positives-le s r k)) (r .threshold) in
+    let a : positives s k * s .threshold ≤ 135 * maxThreshold = mul-le-mul {n₂ = 135} (omega (arith, positives-le s r k)) (r .threshold) in
     omega (arith, total-le s x k l, sum (pos 128) (sumTo k (part s x)))

@@ -11,7 +11,7 @@ use denote.Ref.{now}
 use Rattle.checks.specs.declared.Found.the-variants.{Nothing}
 use Rattle.checks.specs.Search.{firstPlace}
 use Rattle.checks.proofs.Search.{found-first, found-more, found-every}
-use Rattle.entries.specs.Possible.{readingInRange}
+use Rattle.entries.specs.Possible.{maxReading, readingInRange}
 use Rattle.entries.proofs.first_above.Statement.{statement}
 use Rattle.entries.proofs.first_above.Tie as tie
 
@@ -37,13 +37,13 @@ returns-2 : tie.Need-returns-2 Inv-loop μ-loop
 returns-2 c =
     let l = c .before .before .before .loop in
     let xs = now (c .before .before .before .before .before .before .before .args .readings) in
-    sym (found-first (outside xs) (l .i) (length xs) (omega arith) (l .inv .1) (rw (lt-leb (getD xs (l .i) 0) 16383 (omega arith))))
+    sym (found-first (outside xs) (l .i) (length xs) (omega arith) (l .inv .1) (rw (lt-leb (getD xs (l .i) 0) maxReading (omega arith))))
 
 loop-again : tie.Need-loop-again Inv-loop μ-loop
 loop-again c =
     let l = c .before .before .before .loop in
     let xs = now (c .before .before .before .before .before .before .before .args .readings) in
-    (omega arith, found-more (outside xs) (l .i) (l .inv .1) (rw (le-leb (getD xs (l .i) 0) 16383 (omega arith))))
+    (omega arith, found-more (outside xs) (l .i) (l .inv .1) (rw (le-leb (getD xs (l .i) 0) maxReading (omega arith))))
 
 returns-3 : tie.Need-returns-3 Inv-loop μ-loop
 returns-3 c =

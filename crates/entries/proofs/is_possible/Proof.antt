@@ -8,6 +8,7 @@ use mir.Syntax.{w32}
 use mir.Val.{SFits, toZ}
 use mir.Facts.{toZ-ofZ}
 use Rattle.laws.proofs.Ints.{sum, neg-up, neg-dn, fits, back, signed, toZ-nat}
+use Rattle.entries.specs.Possible.{maxProduct}
 use Rattle.entries.proofs.Possible.{gap, gap-is, lowered-is}
 use Rattle.entries.proofs.is_possible.Statement.{statement}
 use Rattle.entries.proofs.is_possible.Tie as tie
@@ -17,7 +18,7 @@ module _ (c : tie.Start) where
   k = c .args .k
 
   abbrev span : ℤ
-  span = pos (k * 245745)
+  span = pos (k * maxProduct)
 
   samples : toZ w32 k ≡ pos k
   samples = toZ-nat w32 k (omega arith)
