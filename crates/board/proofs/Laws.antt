@@ -10,10 +10,11 @@ use lib.IntN.{ℤ, pos}
 use lib.ListN.{length}
 use Rattle.laws.specs.Lists.{every}
 use Rattle.settings.specs.declared.Settings.{Settings}
-use Rattle.settings.specs.Record.{fieldCount}
-use Rattle.settings.specs.Update as SettingsUpdate
+use Rattle.record.specs.Record.{fieldCount}
+use Rattle.update.specs.Update as SettingsUpdate
 use Rattle.settings.proofs.Parts.{InRange, in-range-parts, in-range-whole}
 use Rattle.settings.proofs.Laws as SettingsLaws
+use Rattle.update.proofs.Laws as UpdateLaws
 use Rattle.checks.specs.declared.Refusal.{Refusal}
 use Rattle.checks.specs.declared.Answer.{Answer}
 use Rattle.checks.specs.declared.Answer.the-variants.{Taken, Refused}
@@ -59,7 +60,7 @@ waiting-sound b t r s = record { sides = s .sides; waiting = r; in-force = s .in
 resulting-in-range : (s : Settings) (bytes : List ℕ) → InRange s → verdict (SettingsUpdate.updateChecks bytes) ≡ Taken → InRange (SettingsUpdate.resulting bytes fieldCount s)
 unfolding SettingsUpdate.updateOf
 resulting-in-range s bytes r e =
-    in-range-parts _ (rw e at (SettingsLaws.laws .stays-in-range s bytes (in-range-whole s r)))
+    in-range-parts _ (rw e at (UpdateLaws.laws .stays-in-range s bytes (in-range-whole s r)))
 
 update-sound : (b : Board) (bytes : List ℕ) → sound (updateOf b bytes .board) ≡ sound b
 unfolding updateOf verdict

@@ -1,9 +1,9 @@
 -- Update, also while a ramp runs.
 use Prim.Native.Nat.{ℕ}
 use mathlib.Core.List.{List, _∷_}
-use Rattle.settings.specs.Record.{fieldCount}
-use Rattle.settings.specs.Update as SettingsUpdate
-use Rattle.settings.specs.Update.{resulting}
+use Rattle.record.specs.Record.{fieldCount}
+use Rattle.update.specs.Update as SettingsUpdate
+use Rattle.update.specs.Update.{resulting}
 use Rattle.checks.specs.declared.Answer.{Answer}
 use Rattle.checks.specs.Checks.{verdict}
 use Rattle.board.specs.declared.Board.{Board}

@@ -11,6 +11,7 @@ use crate::changes::leaves;
 use crate::sound::sides_taken;
 use checks::Answer;
 use checks::Refusal;
+use update::update;
 
 impl Board {
     // Open: a board with the default settings, or a refusal and a board that isn't sound.
@@ -30,7 +31,7 @@ impl Board {
         ensures { λ r. ⌜ r ≡ updateOf self (now (bytes .entry)) ⌝ }
     {
         let waiting = self.waiting;
-        let u = waiting.update(bytes);
+        let u = update(waiting, bytes);
         let record = u.answer;
         let settings = u.settings;
         leaves(

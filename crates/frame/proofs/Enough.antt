@@ -18,8 +18,8 @@ use Rattle.checks.specs.declared.Answer.{Answer}
 use Rattle.checks.specs.declared.Answer.the-variants.{Taken, Refused}
 use Rattle.checks.specs.Checks.{refusal, when, first, verdict, byAnswer}
 use Rattle.checks.proofs.Laws.{verdict-append}
-use Rattle.settings.specs.Record.{mapOf, unknownBit}
-use Rattle.settings.proofs.Overlong.{overlong}
+use Rattle.record.specs.Record.{mapOf, unknownBit}
+use Rattle.update.proofs.Overlong.{overlong}
 use Rattle.board.specs.declared.Board.{Board}
 use Rattle.board.specs.Board.{area, wanted, unsound, opened}
 use Rattle.board.specs.Open.{noBoard, openOf}

@@ -17,11 +17,11 @@ use Rattle.laws.proofs.Each.{each-length}
 use Rattle.laws.proofs.Every.{every-at, every-all}
 use Rattle.laws.proofs.Elements.{every-append, every-made}
 use Rattle.settings.specs.declared.Settings.{Settings}
-use Rattle.settings.specs.declared.Updated.{Updated}
+use Rattle.update.specs.declared.Updated.{Updated}
 use Rattle.settings.specs.Settings.{defaults, inRange}
-use Rattle.settings.specs.Record.{fieldCount}
-use Rattle.settings.specs.Update.{updateChecks, resulting, updateOf}
-use Rattle.settings.proofs.Laws.{laws}
+use Rattle.record.specs.Record.{fieldCount}
+use Rattle.update.specs.Update.{updateChecks, resulting, updateOf}
+use Rattle.update.proofs.Laws.{laws}
 use Rattle.checks.specs.declared.Answer.the-variants.{Taken}
 use Rattle.checks.specs.Checks.{verdict}
 use Rattle.entries.specs.Possible.{maxReading, readingInRange}

@@ -7,8 +7,8 @@ use lib.IntN.{ℤ}
 use lib.ListN.{length}
 use Rattle.settings.specs.declared.Settings.{Settings}
 use Rattle.settings.specs.Settings.{defaults}
-use Rattle.settings.specs.Record.{fieldCount}
-use Rattle.settings.specs.Update.{resulting}
+use Rattle.record.specs.Record.{fieldCount}
+use Rattle.update.specs.Update.{resulting}
 use Rattle.checks.specs.declared.Answer.{Answer}
 use Rattle.checks.specs.declared.Answer.the-variants.{Taken, Refused}
 use Rattle.checks.specs.Checks.{verdict, byAnswer}

@@ -20,7 +20,7 @@ use Rattle.checks.specs.declared.Answer.{Answer}
 use Rattle.checks.specs.declared.Answer.the-variants.{Taken, Refused}
 use Rattle.checks.specs.Checks.{refusal, when, first, verdict, byAnswer}
 use Rattle.checks.proofs.Laws.{first-taken, verdict-append, verdict-rest, both-taken, when-taken}
-use Rattle.settings.specs.Record.{mapOf}
+use Rattle.record.specs.Record.{mapOf}
 use Rattle.words.specs.Frame.{wordCount}
 use Rattle.board.specs.Board.{sidesTaken}
 use Rattle.board.specs.Open.{openOf}

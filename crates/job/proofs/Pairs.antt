@@ -13,7 +13,7 @@ use lib.Dec.{ltb}
 use lib.ListN.{length, getD, take, drop, length-take, length-drop, drop-of-length-le}
 use lib.Seq.{take-all, take-nil, take-take}
 use Rattle.laws.proofs.Tests.{cases}
-use Rattle.settings.specs.Record.{pairAt}
+use Rattle.record.specs.Record.{pairAt}
 use Rattle.job.specs.Input.{pairs, recordLength, recordOf, readingsAt, readingsOf, maxReadings}
 
 module _ {A : Type 0} where

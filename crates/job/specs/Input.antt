@@ -5,7 +5,7 @@ use mathlib.Core.Bool.{Bool}
 use mathlib.Core.List.{List, [], _∷_}
 use lib.Dec.{eqb}
 use lib.ListN.{getD, take, drop}
-use Rattle.settings.specs.Record.{pairAt}
+use Rattle.record.specs.Record.{pairAt}
 
 abbrev pub widthOf : List ℕ → ℕ
 widthOf bytes = pairAt bytes 0

@@ -3,7 +3,7 @@ ghost use mathlib.Core.Path.{_≡_};
 ghost use Prim.Native.Nat.{_*_, _<_, _≤_};
 ghost use lib.ListN.{length, take};
 ghost use Rattle.job.specs.Input.{pairs};
-use settings::record::pair;
+use record::pair;
 
 // The readings in the bytes, into the front of a buffer that has room for them.
 pub(crate) fn decode(bytes: &[u8], readings: &mut [u16])

@@ -16,8 +16,8 @@ use board::Board;
 use checks::Answer;
 use frame::frame_of;
 use ramp::numbers::least;
-use settings::record::byte;
-use settings::record::pair;
+use record::byte;
+use record::pair;
 
 // 17, then 1, then 18. `total` is how many bytes the whole input has.
 fn check_input(input: &[u8], total: usize) -> Answer

@@ -1,6 +1,4 @@
--- The settings, the update record, and the covered question.
+-- The settings, their ranges, and the covered question.
 pub mod Settings
-pub mod Record
-pub mod Update
 pub mod Covered
 pub mod Laws

@@ -1,12 +1,9 @@
-// The settings of a ramp board, the update record that changes them, and the covered question.
+// The settings of a ramp board, their ranges, and the covered question.
 ghost use mathlib.Core.Path.{_≡_};
 ghost use Rattle.settings.specs.Settings as Def;
-use checks::Answer;
 
 mod covered;
 pub mod ranges;
-pub mod record;
-mod update;
 
 pub struct Settings {
     // The weights of samples 1 to 9.
@@ -17,20 +14,6 @@ pub struct Settings {
     pub truncation: u16,
     // N: how many samples a ramp has.
     pub samples: u16,
-}
-
-// A field of an update record. `Weight(i)` is weight i + 1.
-pub enum Field {
-    Weight(usize),
-    Threshold,
-    Truncation,
-    Samples,
-}
-
-// What an update answers, with the settings as it leaves them.
-pub struct Updated {
-    pub answer: Answer,
-    pub settings: Settings,
 }
 
 impl Settings {

@@ -1,0 +1,3 @@
+-- The bytes of an update record.
+pub mod Record
+pub mod Laws
