@@ -1,40 +1,18 @@
--- What the checks of a taken call have shown.
---     ramp-taken, ramp-passes     what Feed and Read out begin with, and back
---     feed-taken, feedable        Feed
---     read-out-taken, readable-frame     Read out
--- and back: feed-passes, read-out-passes. And of a sound board: covered-is.
-use Prim.Native.Nat.{ℕ, _+_, _≤_}
-use mathlib.Core.Bool.{Bool, true, false, not, cond}
-use mathlib.Core.List.{List}
+-- What the checks that Feed and Read out begin with have shown, and back; and of a sound board, what Covered says of it.
+use Prim.Native.Nat.{ℕ}
+use mathlib.Core.Bool.{Bool, true, false, cond}
 use mathlib.Core.Logic.{_↔_}
-use mathlib.Core.Path.{_≡_, refl, sym, _∙_}
-use borrow.Author.Tests.{ltb-false, le-ltb, le-leb, eqb-true, eq-eqb, not-false}
-use native.Mathlib.Omega.{arith}
-use lib.IntN.{ℤ, pos}
-use lib.ListN.{length, getD}
-use Rattle.laws.specs.Lists.{every}
-use Rattle.laws.proofs.Every.{every-at, every-all, every-each}
-use Rattle.laws.proofs.Tests.{true-and}
+use mathlib.Core.Path.{_≡_, refl}
+use borrow.Author.Tests.{eqb-true, eq-eqb, not-false}
 use Rattle.settings.specs.Covered.{isCovered}
-use Rattle.settings.proofs.Parts.{in-range-whole}
 use Rattle.checks.specs.declared.Answer.the-variants.{Taken}
-use Rattle.checks.specs.declared.Found.the-variants.{Nothing}
-use Rattle.checks.specs.Search.{firstPlace}
-use Rattle.checks.specs.Checks.{found, verdict}
-use Rattle.checks.proofs.Laws.{verdict-append, both-taken, when-taken, found-taken}
-use Rattle.checks.proofs.Search.{found-none, found-every}
-use Rattle.entries.specs.Possible.{readingInRange, possible}
-use Rattle.ramp.specs.Written.{notPossibleAt}
-use Rattle.ramp.specs.Requires.{Feedable}
-use Rattle.words.specs.Frame.{wordCount}
-use Rattle.words.specs.Requires.{readable, Readable}
-use Rattle.words.proofs.Entries.{possible-readable}
+use Rattle.checks.specs.Checks.{verdict}
+use Rattle.checks.proofs.Laws.{both-taken, when-taken}
 use Rattle.board.specs.declared.Board.{Board}
 use Rattle.board.specs.declared.Coverage.the-variants.{Covered, Uncovered}
-use Rattle.board.specs.Board.{area, wanted, sound}
-use Rattle.board.specs.Ramp.{rampChecks, readingChecks, feedChecks, outputChecks, readOutChecks}
+use Rattle.board.specs.Board.{area, sound}
+use Rattle.board.specs.Ramp.{rampChecks}
 use Rattle.board.specs.Covered.{coverageOf}
-use Rattle.board.proofs.Soundness.{sound-parts, sides-of, wanted-nine}
 
 pub record RampTaken (b : Board) (sumsLength : ℕ) : Type 0 where
   pub whole : sound b ≡ true
@@ -53,94 +31,9 @@ ramp-taken b n e =
       length-is = eqb-true _ _ (not-false _ (when-taken _ 11 (r .0)));
     }
 
--- a search over a list that finds nothing which fails a test: every element passes
-none-fails : {A : Type 0} (test : A → Bool) (l : List A) (d : A) (n : ℕ) → found (firstPlace (length l) (λ i. not (test (getD l i d)))) n ≡ Taken → every test l ≡ true
-none-fails test l d n e =
-    let t : ℕ → Bool = λ i. not (test (getD l i d)) in
-    every-all test l d (λ i h. not-false _ (found-none t (length l) (found-taken (firstPlace (length l) t) n e) i h))
-
 pub ramp-passes : (b : Board) (n : ℕ) → RampTaken b n → verdict (rampChecks b n) ≡ Taken
 unfolding verdict
 ramp-passes b n t = rw (t .whole, t .running, eq-eqb _ _ (t .length-is))
-
-pub record FeedTaken (b : Board) (xs : List ℕ) (sums : List ℤ) : Type 0 where
-  pub ramp : RampTaken b (length sums)
-  pub room : b .fed + length xs ≤ wanted b
-  pub readings : every readingInRange xs ≡ true
-  pub entries : firstPlace (length sums) (notPossibleAt (pos 0) possible (length sums) (b .fed) (length xs) sums) ≡ Nothing
-
-pub feed-taken : (b : Board) (xs : List ℕ) (sums : List ℤ) → verdict (feedChecks b xs sums) ≡ Taken → FeedTaken b xs sums
-unfolding verdict
-feed-taken b xs sums e =
-    let a = both-taken (verdict (rampChecks b (length sums))) (verdict (readingChecks b xs sums)) (sym (verdict-append (rampChecks b (length sums)) (readingChecks b xs sums)) ∙ e) in
-    let p = both-taken _ _ (a .1) in
-    let q = both-taken _ _ (p .1) in
-    let r = both-taken _ Taken (q .1) in
-    record {
-      ramp = ramp-taken b (length sums) (a .0);
-      room = ltb-false _ _ (when-taken _ 12 (p .0));
-      readings = none-fails readingInRange xs 0 13 (q .0);
-      entries = found-taken _ 14 (r .0);
-    }
-
-pub feed-passes : (b : Board) (xs : List ℕ) (sums : List ℤ) → FeedTaken b xs sums → verdict (feedChecks b xs sums) ≡ Taken
-unfolding verdict
-feed-passes b xs sums t =
-    rw (verdict-append (rampChecks b (length sums)), ramp-passes b (length sums) (t .ramp), le-ltb _ _ (t .room), found-every readingInRange xs 0 (t .readings), t .entries)
-
-pub feedable : (b : Board) (xs : List ℕ) (sums : List ℤ) → FeedTaken b xs sums → Feedable (b .«in_force») (b .fed) xs sums
-feedable b xs sums t =
-    let s = sound-parts b (t .ramp .whole) in
-    let z = sides-of b s in
-    let l = t .ramp .length-is in
-    record {
-      some = rw l (z .some);
-      few = rw l (z .few);
-      settings = in-range-whole _ (s .in-force);
-      room = rw l (omega (arith, t .room, wanted-nine b s));
-      readings = t .readings;
-      entries = t .entries;
-    }
-
-pub record ReadOutTaken (b : Board) (sums : List ℤ) (outputLength : ℕ) : Type 0 where
-  pub ramp : RampTaken b (length sums)
-  pub full : wanted b ≤ b .fed
-  pub room : outputLength ≡ wordCount (b .binned) (area b)
-  pub entries : every (possible (b .«in_force» .samples)) sums ≡ true
-
-pub read-out-taken : (b : Board) (sums : List ℤ) (output : List ℕ) → verdict (readOutChecks b sums output) ≡ Taken → ReadOutTaken b sums (length output)
-unfolding verdict
-read-out-taken b sums output e =
-    let n = length output in
-    let a = both-taken (verdict (rampChecks b (length sums))) (verdict (outputChecks b sums n)) (sym (verdict-append (rampChecks b (length sums)) (outputChecks b sums n)) ∙ e) in
-    let p = both-taken _ _ (a .1) in
-    let q = both-taken _ _ (p .1) in
-    let r = both-taken _ Taken (q .1) in
-    record {
-      ramp = ramp-taken b (length sums) (a .0);
-      full = ltb-false _ _ (when-taken _ 15 (p .0));
-      room = eqb-true _ _ (not-false _ (when-taken _ 16 (q .0)));
-      entries = none-fails (possible (b .«in_force» .samples)) sums (pos 0) 14 (r .0);
-    }
-
-pub read-out-passes : (b : Board) (sums : List ℤ) (output : List ℕ) → ReadOutTaken b sums (length output) → verdict (readOutChecks b sums output) ≡ Taken
-unfolding verdict
-read-out-passes b sums output t =
-    rw (verdict-append (rampChecks b (length sums)), ramp-passes b (length sums) (t .ramp), le-ltb _ _ (t .full), eq-eqb _ _ (t .room), found-every (possible (b .«in_force» .samples)) sums (pos 0) (t .entries))
-
-pub readable-frame : (b : Board) (sums : List ℤ) (output : List ℕ) → ReadOutTaken b sums (length output)
-    → Readable (b .width) (b .height) (b .binned) (b .«in_force» .truncation) sums output
-unfolding readable
-readable-frame b sums output t =
-    let s = sound-parts b (t .ramp .whole) in
-    let z = sides-of b s in
-    record {
-      pixels = t .ramp .length-is;
-      room = t .room;
-      even = λ e. (z .width .even e, z .height .even e);
-      truncation = true-and (le-leb _ _ (s .in-force .truncation-low)) (le-leb _ _ (s .in-force .truncation-high));
-      entries = every-each readable sums (every-all readable sums (pos 0) (λ i h. possible-readable _ _ (s .in-force .samples-high) (every-at (possible (b .«in_force» .samples)) sums (t .entries) (pos 0) i h))) (pos 0) refl;
-    }
 
 says-covered : (t : Bool) → (cond t Covered Uncovered ≡ Covered) ↔ (t ≡ true)
 says-covered true = ((λ e. refl), λ e. refl)

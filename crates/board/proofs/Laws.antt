@@ -1,14 +1,10 @@
 -- The laws of the operations: what a taken one leaves is sound, and what each keeps.
-use Prim.Native.Nat.{ℕ, _<_}
+use Prim.Native.Nat.{ℕ}
 use mathlib.Core.Bool.{Bool, true, false, not}
-use mathlib.Core.List.{List, [], _∷_}
+use mathlib.Core.List.{List, _∷_}
 use mathlib.Core.Path.{_≡_, refl, sym, _∙_}
 use borrow.Author.Tests.{not-false}
-use native.Mathlib.Nat.{add-zero}
 use native.Mathlib.Omega.{arith}
-use lib.IntN.{ℤ, pos}
-use lib.ListN.{length}
-use Rattle.laws.specs.Lists.{every}
 use Rattle.settings.specs.declared.Settings.{Settings}
 use Rattle.record.specs.Record.{fieldCount}
 use Rattle.update.specs.Update as SettingsUpdate
@@ -20,24 +16,20 @@ use Rattle.checks.specs.declared.Answer.{Answer}
 use Rattle.checks.specs.declared.Answer.the-variants.{Taken, Refused}
 use Rattle.checks.specs.Checks.{when, verdict, byAnswer}
 use Rattle.checks.proofs.Laws.{first-taken, both-taken, when-taken}
-use Rattle.entries.specs.Possible.{possible}
-use Rattle.ramp.specs.Feed.{feedAll}
-use Rattle.ramp.proofs.Intervals.{written-none}
 use Rattle.board.specs.declared.Board.{Board}
-use Rattle.board.specs.Board.{sidesTaken, sound, unsound, opened, withWaiting, begun, extended, ended}
+use Rattle.board.specs.Board.{sidesTaken, sound, unsound, opened, withWaiting, begun, ended}
 use Rattle.board.specs.Open.{openOf}
 use Rattle.board.specs.Update.{updateChecks, updateOf}
-use Rattle.board.specs.Ramp.{startChecks, startOf, rampChecks, feedChecks, feedOf, fedSums, readOutChecks, readOutOf, readOutWords, dropChecks, dropOf}
+use Rattle.board.specs.Ramp.{startChecks, startOf, dropChecks, dropOf}
 use Rattle.board.specs.Covered.{coverageOf}
 use Rattle.board.specs.Laws.{SameSides, SameSettings, Gives99, BoardLaws}
-use Rattle.board.proofs.Soundness.{Sound, sound-parts, sound-whole, sides-of}
-use Rattle.board.proofs.Checked.{ramp-taken, feed-taken, feed-passes}
+use Rattle.board.proofs.Soundness.{Sound, sound-parts, sound-whole}
 
 -- ---- soundness
 
 -- checks that begin with 99: where what a taken call leaves is sound, so is what the call leaves of a sound board, and only of one
 module _ (b new : Board) (rest : List Answer) (keep : Sound b → verdict (unsound b ∷ rest) ≡ Taken → Sound new) where
-  stays : sound (byAnswer (verdict (unsound b ∷ rest)) new b) ≡ sound b
+  pub stays : sound (byAnswer (verdict (unsound b ∷ rest)) new b) ≡ sound b
   unfolding verdict
   stays = by (verdict (unsound b ∷ rest)) refl
     where
@@ -50,7 +42,7 @@ module _ (b new : Board) (rest : List Answer) (keep : Sound b → verdict (unsou
 begun-sound : (b : Board) → Sound b → Sound (begun b)
 begun-sound b s = record { sides = s .sides; waiting = s .waiting; in-force = s .waiting; fed = omega arith; idle = refl }
 
-ended-sound : (b : Board) → Sound b → Sound (ended b)
+pub ended-sound : (b : Board) → Sound b → Sound (ended b)
 ended-sound b s = record { sides = s .sides; waiting = s .waiting; in-force = s .in-force; fed = omega arith; idle = refl }
 
 waiting-sound : (b : Board) (t : Settings) → InRange t → Sound b → Sound (withWaiting t b)
@@ -67,13 +59,6 @@ unfolding updateOf verdict
 update-sound b bytes =
     stays b _ (SettingsUpdate.updateChecks bytes)
     (λ s e. waiting-sound b _ (resulting-in-range (b .waiting) bytes (s .waiting) (both-taken (unsound b) (verdict (SettingsUpdate.updateChecks bytes)) e .1)) s)
-
-feed-sound : (b : Board) (xs : List ℕ) (sums : List ℤ) → sound (feedOf b xs sums .board) ≡ sound b
-unfolding feedOf
-feed-sound b xs sums =
-    stays b (extended (length xs) b) _
-    (λ s e. let t = feed-taken b xs sums e in
-    record { sides = s .sides; waiting = s .waiting; in-force = s .in-force; fed = t .room; idle = rw (t .ramp .running) })
 
 -- ---- Open
 
@@ -108,10 +93,10 @@ kept : (P : Board → Type 0) (a : Answer) (old new : Board) → P old → P new
 kept P Taken old new o n = n
 kept P (Refused r) old new o n = o
 
-same-settings : (a : Answer) (old new : Board) → SameSettings old new → SameSettings old (byAnswer a new old)
+pub same-settings : (a : Answer) (old new : Board) → SameSettings old new → SameSettings old (byAnswer a new old)
 same-settings a old new e = kept (SameSettings old) a old new (refl, refl) e
 
-same-sides : (a : Answer) (old new : Board) → SameSides old new → SameSides old (byAnswer a new old)
+pub same-sides : (a : Answer) (old new : Board) → SameSides old new → SameSides old (byAnswer a new old)
 same-sides a old new e = kept (SameSides old) a old new (refl, refl, refl) e
 
 update-waiting : (a : Answer) (b : Board) (t : Settings) → byAnswer a (withWaiting t b) b ≡ withWaiting (byAnswer a (withWaiting t b) b .waiting) b
@@ -124,59 +109,35 @@ start-in-force a b e = rw e
 start-refused : (a : Answer) (b : Board) (r : Refusal) → a ≡ Refused r → byAnswer a (begun b) b ≡ b
 start-refused a b r e = rw e
 
--- ---- 99, and the empty Feed
+-- ---- 99
 
 unsound-99 : (b : Board) → sound b ≡ false → Gives99 b
-unfolding updateOf startOf feedOf fedSums readOutOf readOutWords dropOf coverageOf verdict
+unfolding updateOf startOf dropOf coverageOf verdict
 unsound-99 b s = record {
   update = λ bytes. rw s;
   start = rw s;
-  feed = λ xs sums. (rw s, rw s);
-  read-out = λ sums output. (rw s, rw s);
   drop = rw s;
   covered = rw s;
 }
 
-empty-feed : (b : Board) (sums : List ℤ) → verdict (rampChecks b (length sums)) ≡ Taken
-    → (feedOf b [] sums ≡ record { answer = Taken; board = b }) × (fedSums b [] sums ≡ sums)
-unfolding feedOf fedSums feedAll every
-empty-feed b sums e =
-    let t = ramp-taken b (length sums) e in
-    let s = sound-parts b (t .whole) in
-    let some : 0 < length sums = rw (t .length-is) (sides-of b s .some) in
-    let p = feed-passes b [] sums (record {
-      ramp = t;
-      room = omega (arith, s .fed);
-      readings = refl;
-      entries = written-none (pos 0) possible (length sums) (b .fed) 0 sums some refl;
-    }) in
-    rw (p, add-zero (b .fed)) (refl, refl)
-
 pub laws : BoardLaws
-unfolding updateOf startOf feedOf readOutOf dropOf
+unfolding updateOf startOf dropOf
 laws = record {
   opened-sound = opened-sound;
   refused-unsound = refused-unsound;
   stays-sound = record {
     update = update-sound;
     start = λ b. stays b (begun b) _ (λ s e. begun-sound b s);
-    feed = feed-sound;
-    read-out = λ b sums output. stays b (ended b) _ (λ s e. ended-sound b s);
     drop = λ b. stays b (ended b) _ (λ s e. ended-sound b s);
   };
   unsound-99 = unsound-99;
   sides-stay = record {
     update = λ b bytes. same-sides (verdict (updateChecks b bytes)) b _ (refl, refl, refl);
     start = λ b. same-sides (verdict (startChecks b)) b (begun b) (refl, refl, refl);
-    feed = λ b xs sums. same-sides (verdict (feedChecks b xs sums)) b (extended (length xs) b) (refl, refl, refl);
-    read-out = λ b sums output. same-sides (verdict (readOutChecks b sums output)) b (ended b) (refl, refl, refl);
     drop = λ b. same-sides (verdict (dropChecks b)) b (ended b) (refl, refl, refl);
   };
   update-waiting = λ b bytes. update-waiting (verdict (updateChecks b bytes)) b (SettingsUpdate.resulting bytes fieldCount (b .waiting));
   start-in-force = λ b e. start-in-force (verdict (startChecks b)) b e;
   start-refused = λ b r e. start-refused (verdict (startChecks b)) b r e;
-  feed-keeps = λ b xs sums. same-settings (verdict (feedChecks b xs sums)) b (extended (length xs) b) (refl, refl);
-  read-out-keeps = λ b sums output. same-settings (verdict (readOutChecks b sums output)) b (ended b) (refl, refl);
   drop-keeps = λ b. same-settings (verdict (dropChecks b)) b (ended b) (refl, refl);
-  empty-feed = empty-feed;
 }

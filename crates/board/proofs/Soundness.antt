@@ -1,17 +1,18 @@
 -- What `sound` says, part by part, and back.
 --     side-parts, Sides, sides-parts     the sides that Open takes
+--     times-taken, area-few              what the code works out of the sides
 --     Sound, sound-parts, sound-whole    a sound board
 use Prim.Native.Nat.{ℕ, _*_, _%_, _≤_, _<_}
-use mathlib.Core.Bool.{Bool, true, not, _&&_}
-use mathlib.Core.Path.{_≡_}
+use mathlib.Core.Bool.{Bool, true, false, cond, not, _&&_}
+use mathlib.Core.Path.{_≡_, refl}
 use borrow.Author.Tests.{leb-true, le-leb, eqb-false, not-true}
-use native.Mathlib.Nat.{mul-le-mul, mul-pos}
+use native.Mathlib.Nat.{mul-le-mul, mul-pos, mul-zero}
 use native.Mathlib.Omega.{arith}
 use lib.Dec.{leb, eqb}
-use Rattle.laws.proofs.Tests.{and-true}
+use Rattle.laws.proofs.Tests.{cases, and-true}
 use Rattle.settings.proofs.Parts.{InRange, in-range-parts, in-range-whole}
 use Rattle.board.specs.declared.Board.{Board}
-use Rattle.board.specs.Board.{area, wanted, sideTaken, sidesTaken, idleUnfed, sound}
+use Rattle.board.specs.Board.{area, wanted, sideTaken, sidesTaken, ofTakenSides, idleUnfed, sound}
 
 pub record Side (binned : Bool) (n : ℕ) : Type 0 where
   pub low : 1 ≤ n
@@ -46,6 +47,18 @@ sides-parts w h binned e =
       some = mul-pos (x .low) (y .low);
       few = mul-le-mul {n₂ = 1024} (x .high) (y .high);
     }
+
+-- what the code works out of the sides
+module _ (b : Board) where
+  pub times-taken : (n m : ℕ) → n * ofTakenSides b m ≡ ofTakenSides b (n * m)
+  times-taken n m = by (sidesTaken (b .width) (b .height) (b .binned))
+    where
+      by : (t : Bool) → n * cond t m 0 ≡ cond t (n * m) 0
+      by true = refl
+      by false = mul-zero n
+
+  pub area-few : ofTakenSides b (area b) ≤ 1048576
+  area-few = cases (sidesTaken (b .width) (b .height) (b .binned)) (λ e. rw e (sides-parts _ _ _ e .few)) (λ e. rw e (omega arith))
 
 pub record Sound (b : Board) : Type 0 where
   pub sides : sidesTaken (b .width) (b .height) (b .binned) ≡ true

@@ -1,6 +1,5 @@
 // The parts of a board that the operations change.
 ghost use mathlib.Core.Path.{_≡_};
-ghost use Prim.Native.Nat.{_+_, _^_, _<_};
 ghost use Rattle.board.specs.Board as Def;
 use crate::Board;
 use crate::Outcome;
@@ -45,18 +44,8 @@ impl Board {
         b
     }
 
-    // More readings are fed.
-    pub(crate) fn extended(self, count: usize) -> Board
-        requires { ⌜ self .fed + count < 2 ^ 64 ⌝ }
-        ensures { λ r. ⌜ r ≡ Def.extended count self ⌝ }
-    {
-        let mut b = self;
-        b.fed = self.fed + count;
-        b
-    }
-
     // The ramp ends.
-    pub(crate) fn ended(self) -> Board
+    pub fn ended(self) -> Board
         ensures { λ r. ⌜ r ≡ Def.ended self ⌝ }
     {
         let mut b = self;

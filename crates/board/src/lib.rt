@@ -4,8 +4,6 @@ use checks::Refusal;
 use settings::Settings;
 
 mod changes;
-mod feed;
-mod read_out;
 mod sound;
 mod without_sums;
 

@@ -1,8 +1,9 @@
-// Which boards are sound.
+// Which boards are sound, and the checks that operations begin with.
 ghost use mathlib.Core.Path.{_≡_};
-ghost use mathlib.Core.Bool.{true, cond};
+ghost use Rattle.checks.specs.Checks.{verdict};
 ghost use Rattle.board.specs.Board as Def;
-ghost use Rattle.board.specs.Board.{sideTaken, sidesTaken, unsound};
+ghost use Rattle.board.specs.Board.{sideTaken, sidesTaken, ofTakenSides, unsound};
+ghost use Rattle.board.specs.Ramp.{rampChecks};
 use crate::Board;
 use checks::Answer;
 
@@ -20,23 +21,22 @@ pub fn sides_taken(width: usize, height: usize, binned: bool) -> bool
 }
 
 impl Board {
-    // How many pixels the board has.
-    pub(crate) fn area(self) -> usize
-        requires { ⌜ sidesTaken (self .width) (self .height) (self .binned) ≡ true ⌝ }
-        ensures { λ r. ⌜ r ≡ Def.area self ⌝ }
+    // How many pixels the board has; 0 for sides that Open doesn't take.
+    pub fn area(self) -> usize
+        ensures { λ r. ⌜ r ≡ ofTakenSides self (Def.area self) ⌝ }
     {
-        self.width * self.height
+        if sides_taken(self.width, self.height, self.binned) {
+            self.width * self.height
+        } else {
+            0
+        }
     }
 
     // How many readings the ramp wants in all; 0 for sides that Open doesn't take.
     pub fn wanted(self) -> usize
-        ensures { λ r. ⌜ r ≡ cond (sidesTaken (self .width) (self .height) (self .binned)) (Def.wanted self) 0 ⌝ }
+        ensures { λ r. ⌜ r ≡ ofTakenSides self (Def.wanted self) ⌝ }
     {
-        if sides_taken(self.width, self.height, self.binned) {
-            self.in_force.samples as usize * self.area()
-        } else {
-            0
-        }
+        self.in_force.samples as usize * self.area()
     }
 
     pub fn sound(self) -> bool
@@ -59,5 +59,17 @@ impl Board {
         ensures { λ r. ⌜ r ≡ unsound self ⌝ }
     {
         Answer::when(!self.sound(), checks::UNSOUND_BOARD)
+    }
+
+    // What Feed and Read out begin with: 99, 10 and 11.
+    pub fn check_ramp(self, sums: usize) -> Answer
+        ensures { λ r. ⌜ r ≡ verdict (rampChecks self sums) ⌝ }
+    {
+        if self.sound() {
+            let idle = Answer::when(!self.running, checks::NO_RAMP);
+            idle.then(Answer::when(sums != self.area(), checks::SUMS_LENGTH))
+        } else {
+            self.check_sound()
+        }
     }
 }

@@ -12,7 +12,7 @@ use Rattle.checks.proofs.Laws.{both-taken}
 use Rattle.board.specs.declared.Board.{Board}
 use Rattle.board.specs.declared.Coverage.the-variants.{Covered}
 use Rattle.board.specs.Open.{openOf}
-use Rattle.board.specs.Ramp.{fedSums}
+use Rattle.acquisition.specs.Feed.{fedSums}
 use Rattle.board.specs.Covered.{coverageOf}
 use Rattle.history.specs.Calls.{Call, update, start, feed, readOut, Ledger, fresh, viewOf, refusal, next, moments}
 use Rattle.history.specs.Readings.{frameFrom}

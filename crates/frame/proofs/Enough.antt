@@ -24,7 +24,8 @@ use Rattle.board.specs.declared.Board.{Board}
 use Rattle.board.specs.Board.{area, wanted, unsound, opened}
 use Rattle.board.specs.Open.{noBoard, openOf}
 use Rattle.board.specs.Update.{updateOf}
-use Rattle.board.specs.Ramp.{startOf, rampChecks, readingChecks, feedChecks, feedOf}
+use Rattle.board.specs.Ramp.{startOf, rampChecks}
+use Rattle.acquisition.specs.Feed.{readingChecks, feedChecks, feedOf}
 use Rattle.board.proofs.Soundness.{sound-parts, wanted-nine}
 use Rattle.board.proofs.Checked.{ramp-taken}
 use Rattle.frame.specs.Chain.{updated, started, frameAnswer, frameWords}

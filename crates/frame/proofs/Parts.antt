@@ -23,9 +23,10 @@ use Rattle.ramp.proofs.Agrees.{agrees-none}
 use Rattle.ramp.proofs.Honest.{never-damaged}
 use Rattle.board.specs.declared.Board.{Board}
 use Rattle.board.specs.Board.{wanted}
-use Rattle.board.specs.Ramp.{feedChecks, feedOf, fedSums, readOutChecks, readOutOf, readOutWords}
+use Rattle.acquisition.specs.Feed.{feedChecks, feedOf, fedSums}
+use Rattle.acquisition.specs.ReadOut.{readOutChecks, readOutOf, readOutWords}
 use Rattle.board.proofs.Soundness.{sound-parts, sides-of}
-use Rattle.board.proofs.Checked.{feed-taken, feed-passes, read-out-taken}
+use Rattle.acquisition.proofs.Checked.{feed-taken, feed-passes, read-out-taken}
 use Rattle.history.specs.Demands.{joined}
 use Rattle.frame.specs.Chain.{started, begun, fed, readOut, frameAnswer, frameSums, frameWords}
 use Rattle.frame.specs.Steps.{partFed, allFed, feedAnswer, feedLeaves, readOutAnswer, readOutLeaves}

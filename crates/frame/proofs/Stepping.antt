@@ -14,7 +14,8 @@ use Rattle.checks.specs.Checks.{first, verdict, byAnswer}
 use Rattle.checks.proofs.Laws.{first-taken, verdict-append, both-taken}
 use Rattle.board.specs.Board.{sidesTaken, sound}
 use Rattle.board.specs.Open.{openOf}
-use Rattle.board.specs.Ramp.{feedOf, fedSums, readOutOf, readOutWords}
+use Rattle.acquisition.specs.Feed.{feedOf, fedSums}
+use Rattle.acquisition.specs.ReadOut.{readOutOf, readOutWords}
 use Rattle.board.proofs.Soundness.{sound-parts}
 use Rattle.board.proofs.Laws as BoardLaws
 use Rattle.frame.specs.Chain.{updated, started, begun, fed, readOut, frameAnswer}

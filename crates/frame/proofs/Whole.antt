@@ -31,10 +31,13 @@ use Rattle.board.specs.declared.Board.{Board}
 use Rattle.board.specs.Board.{area, wanted, extended}
 use Rattle.board.specs.Open.{openOf}
 use Rattle.board.specs.Update.{updateOf}
-use Rattle.board.specs.Ramp.{startOf, rampChecks, feedChecks, feedOf, fedSums, readOutChecks, readOutOf, readOutWords}
+use Rattle.board.specs.Ramp.{startOf, rampChecks}
+use Rattle.acquisition.specs.Feed.{feedChecks, feedOf, fedSums}
+use Rattle.acquisition.specs.ReadOut.{readOutChecks, readOutOf, readOutWords}
 use Rattle.board.proofs.Soundness.{sound-parts, sides-of, wanted-nine}
-use Rattle.board.proofs.Checked.{FeedTaken, feed-taken, feedable, read-out-taken, readable-frame, ramp-passes}
-use Rattle.board.proofs.Laws as BoardLaws
+use Rattle.board.proofs.Checked.{ramp-passes}
+use Rattle.acquisition.proofs.Checked.{FeedTaken, feed-taken, feedable, read-out-taken, readable-frame}
+use Rattle.acquisition.proofs.Laws as AcquisitionLaws
 use Rattle.frame.specs.Chain.{started, fed, readOut}
 
 unfed : (a : Answer) (new old : Board) → new .fed ≡ 0 → old .fed ≡ 0 → byAnswer a new old .fed ≡ 0
@@ -81,7 +84,7 @@ module _ (b : Board) (none : b .fed ≡ 0) (xs : List ℕ) (sums : List ℤ) (ta
   unfolding feedOf
   ramp-after =
       ramp-passes _ _ (record {
-        whole = rw taken at (BoardLaws.laws .stays-sound .feed b xs sums) ∙ parts .ramp .whole;
+        whole = rw taken at (AcquisitionLaws.laws .stays-sound .feed b xs sums) ∙ parts .ramp .whole;
         running = parts .ramp .running;
         length-is = left-length ∙ parts .ramp .length-is;
       })

@@ -10,7 +10,9 @@ use Rattle.board.specs.declared.Board.{Board}
 use Rattle.board.specs.declared.Outcome.{Outcome}
 use Rattle.board.specs.Open.{openOf}
 use Rattle.board.specs.Update.{updateOf}
-use Rattle.board.specs.Ramp.{startOf, feedOf, fedSums, readOutOf, readOutWords}
+use Rattle.board.specs.Ramp.{startOf}
+use Rattle.acquisition.specs.Feed.{feedOf, fedSums}
+use Rattle.acquisition.specs.ReadOut.{readOutOf, readOutWords}
 
 abbrev pub updated : ℕ → ℕ → Bool → List ℕ → Outcome
 updated width height binned bytes = updateOf (openOf width height binned .board) bytes

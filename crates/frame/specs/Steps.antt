@@ -8,7 +8,8 @@ use Rattle.checks.specs.Checks.{verdict, byAnswer}
 use Rattle.board.specs.declared.Board.{Board}
 use Rattle.board.specs.Board.{wanted}
 use Rattle.board.specs.Open.{openOf}
-use Rattle.board.specs.Ramp.{feedOf, fedSums, readOutOf, readOutWords}
+use Rattle.acquisition.specs.Feed.{feedOf, fedSums}
+use Rattle.acquisition.specs.ReadOut.{readOutOf, readOutWords}
 use Rattle.frame.specs.Chain.{updated, started}
 
 -- a board with so many readings fed; with more than the ramp wants it isn't sound

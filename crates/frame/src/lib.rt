@@ -5,6 +5,8 @@ ghost use Rattle.frame.specs.Chain.{fed, readOut, frameAnswer, frameSums
 ghost use Rattle.frame.specs.Told.{numberOf, placeOf};
 use crate::begin::begin;
 use crate::told::told;
+use acquisition::feed::check_feed;
+use acquisition::read_out::word_count;
 use board::Board;
 use checks::Answer;
 use ramp::pass::feed;
@@ -19,11 +21,11 @@ fn check(b: Board, readings: &[u16], sums: &[i32], words: &[u16]) -> Answer
     requires { ⌜ b .fed ≡ 0 ⌝ }
     ensures { λ r. ⌜ r ≡ first (fed b (now (readings .entry)) (now (sums .entry)) .answer) (readOut b (now (readings .entry)) (now (sums .entry)) (now (words .entry)) .answer) ⌝ }
 {
-    let feed = b.check_feed(readings, sums);
+    let feed = check_feed(b, readings, sums);
     match feed {
         Answer::Taken => {
             let wanted = Answer::when(readings.len() < b.wanted(), checks::READINGS_WANTED);
-            wanted.then(Answer::when(words.len() != b.word_count(), checks::OUTPUT_LENGTH))
+            wanted.then(Answer::when(words.len() != word_count(b), checks::OUTPUT_LENGTH))
         }
         Answer::Refused(_) => feed,
     }

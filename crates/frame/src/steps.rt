@@ -4,6 +4,8 @@ ghost use Rattle.frame.specs.Told.{numberOf, placeOf};
 ghost use Rattle.frame.specs.Steps.{withFed, feedAnswer, feedLeaves, readOutAnswer, readOutLeaves};
 use crate::begin::begin;
 use crate::told::told;
+use acquisition::feed::feed;
+use acquisition::read_out::read_out;
 use board::Board;
 use checks::Answer;
 
@@ -34,7 +36,7 @@ fn feed_of(
     match answer {
         Answer::Taken => {
             let b = with_fed(board, fed);
-            let outcome = b.feed(readings, sums);
+            let outcome = feed(b, readings, sums);
             outcome.answer
         }
         Answer::Refused(_) => answer,
@@ -58,7 +60,7 @@ fn read_out_of(
     match answer {
         Answer::Taken => {
             let b = with_fed(board, board.wanted());
-            let outcome = b.read_out(sums, words);
+            let outcome = read_out(b, sums, words);
             outcome.answer
         }
         Answer::Refused(_) => answer,

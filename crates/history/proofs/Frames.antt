@@ -16,9 +16,10 @@ use Rattle.words.specs.Word.{wordOf}
 use Rattle.words.specs.Frame.{wordAt, frameOf}
 use Rattle.words.proofs.Grid.{pixels-on, pixels-some}
 use Rattle.board.specs.declared.Coverage.the-variants.{Covered}
-use Rattle.board.specs.Ramp.{readOutOf, readOutWords}
+use Rattle.acquisition.specs.ReadOut.{readOutOf, readOutWords}
 use Rattle.board.specs.Covered.{coverageOf}
-use Rattle.board.proofs.Checked.{ReadOutTaken, read-out-taken, covered-is}
+use Rattle.board.proofs.Checked.{covered-is}
+use Rattle.acquisition.proofs.Checked.{ReadOutTaken, read-out-taken}
 use Rattle.history.specs.Calls.{readOut, Ledger, viewOf, refusal, Allowed}
 use Rattle.history.specs.Readings.{area, words, pixels, readingAt, frameFrom}
 use Rattle.history.specs.Demands.{FrameClaim}

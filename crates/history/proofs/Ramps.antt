@@ -23,8 +23,9 @@ use Rattle.ramp.specs.Step.{step}
 use Rattle.ramp.proofs.Feeding.{feed-length, feed-past}
 use Rattle.ramp.proofs.Honest.{all-pass}
 use Rattle.board.specs.Board.{wanted}
-use Rattle.board.specs.Ramp.{fedSums}
-use Rattle.board.proofs.Checked.{RampTaken, feed-passes, read-out-passes}
+use Rattle.acquisition.specs.Feed.{fedSums}
+use Rattle.board.proofs.Checked.{RampTaken}
+use Rattle.acquisition.proofs.Checked.{feed-passes, read-out-passes}
 use Rattle.history.specs.Calls.{feed, readOut, Ledger, viewOf, refusal, effect, Allowed, afterTaken}
 use Rattle.history.specs.Readings.{area, words}
 use Rattle.history.proofs.Invariant.{Good, parts, sides, few, taken-good}

@@ -17,7 +17,9 @@ use Rattle.board.specs.declared.Outcome.{Outcome}
 use Rattle.board.specs.declared.Coverage.{Coverage}
 use Rattle.board.specs.declared.Coverage.the-variants as Coverage
 use Rattle.board.specs.Update.{updateChecks, updateOf}
-use Rattle.board.specs.Ramp.{startChecks, startOf, feedChecks, feedOf, fedSums, readOutChecks, readOutOf, dropChecks, dropOf}
+use Rattle.board.specs.Ramp.{startChecks, startOf, dropChecks, dropOf}
+use Rattle.acquisition.specs.Feed.{feedChecks, feedOf, fedSums}
+use Rattle.acquisition.specs.ReadOut.{readOutChecks, readOutOf}
 use Rattle.board.specs.Covered.{coveredChecks, coverageOf}
 
 -- a call, with everything it brings

@@ -28,7 +28,8 @@ use Rattle.board.specs.declared.Board.{Board}
 use Rattle.board.specs.declared.Coverage.the-variants.{Covered}
 use Rattle.board.specs.Board.{sound}
 use Rattle.board.specs.Open.{openOf}
-use Rattle.board.specs.Ramp.{fedSums, readOutOf, readOutWords}
+use Rattle.acquisition.specs.Feed.{fedSums}
+use Rattle.acquisition.specs.ReadOut.{readOutOf, readOutWords}
 use Rattle.board.specs.Covered.{coverageOf}
 use Rattle.history.specs.Calls.{Call, update, start, feed, readOut, drop, covered, Ledger, fresh, viewOf, refusal, next, outcomeOf, anySums, Moment, moments}
 use Rattle.history.specs.Readings.{area, words, pixels, exactSums, FirstOver, NeverOver, frameFrom}

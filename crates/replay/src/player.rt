@@ -10,6 +10,8 @@ use crate::numbers::item;
 use crate::numbers::natural;
 use crate::numbers::small;
 use crate::show;
+use acquisition::feed::feed;
+use acquisition::read_out::read_out;
 use board::Board;
 use board::Outcome;
 use checks::Answer;
@@ -86,7 +88,7 @@ impl Player {
     fn feed(self, readings: &[u16], sums: &mut [i32]) -> Player {
         let length = least(self.sums, sums.len());
         let board = self.board;
-        self.after(board.feed(readings, &mut sums[..length]))
+        self.after(feed(board, readings, &mut sums[..length]))
     }
 
     fn feed_list(self, list: &[i64], same: bool, readings: &mut [u16], sums: &mut [i32]) -> Player {
@@ -99,7 +101,7 @@ impl Player {
         let n = least(count, words.len());
         let length = least(self.sums, sums.len());
         let board = self.board;
-        let outcome = board.read_out(&sums[..length], &mut words[..n]);
+        let outcome = read_out(board, &sums[..length], &mut words[..n]);
         let answer = outcome.answer;
         let next = self.after(outcome);
         match answer {

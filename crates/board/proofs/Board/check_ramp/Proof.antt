@@ -7,18 +7,16 @@ use mathlib.Core.Path.{sym, _∙_}
 use Rattle.board.proofs.Board.check_ramp.Statement.{statement}
 use Rattle.board.proofs.Board.check_ramp.Tie as tie
 
-area-requires : tie.Need-area-requires
-area-requires c κs = sound-parts _ (sym (c .before .before .before .sound .ensures) ∙ c .before .before .if1 .taken) .sides
-
 returns : tie.Need-returns
 unfolding verdict
 returns c =
     let d = c .before .before .before .before .before in
-    rw (c .then .ensures, c .before .before .before .when .ensures, c .before .when2 .ensures, c .before .before .area .ensures, sym (d .before .sound .ensures) ∙ d .if1 .taken, first-taken)
+    let s = sym (d .before .sound .ensures) ∙ d .if1 .taken in
+    rw (c .then .ensures, c .before .before .before .when .ensures, c .before .when2 .ensures, c .before .before .area .ensures, sound-parts _ s .sides, s, first-taken)
 
 returns-2 : tie.Need-returns-2
 unfolding verdict
 returns-2 c = rw (c .check-sound .ensures, sym (c .before .before .sound .ensures) ∙ c .before .if1 .left)
 
 pub check-ramp-spec : {M : Type 1} → statement M
-check-ramp-spec = tie.close (tie.spec (λ c κs. search needs) (λ c κs. search needs) area-requires (λ c κs. search needs) (λ c κs. search needs) (λ c κs. search needs) returns returns-2)
+check-ramp-spec = tie.close (tie.spec (λ c κs. search needs) (λ c κs. search needs) (λ c κs. search needs) (λ c κs. search needs) (λ c κs. search needs) (λ c κs. search needs) returns returns-2)

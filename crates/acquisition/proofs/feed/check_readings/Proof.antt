@@ -1,4 +1,4 @@
--- `board::Board::check_readings` meets its contract.
+-- `acquisition::feed::check_readings` meets its contract.
 use Prim.Native.Nat.{_+_}
 use native.Mathlib.Omega.{arith}
 use borrow.Author.Needs.{needs}
@@ -7,14 +7,14 @@ use lib.ListN.{length}
 use denote.Ref.{now}
 use Rattle.checks.specs.Checks.{verdict}
 use Rattle.checks.proofs.Laws.{first-taken}
 use Rattle.board.specs.Board.{wanted}
 use Rattle.board.proofs.Soundness.{Sound, sound-parts, sides-of, wanted-nine}
-use Rattle.board.proofs.Board.check_readings.Statement.{statement}
-use Rattle.board.proofs.Board.check_readings.Tie as tie
+use Rattle.acquisition.proofs.feed.check_readings.Statement.{statement}
+use Rattle.acquisition.proofs.feed.check_readings.Tie as tie
 
 -- what is known of the board
 module _ (s : tie.Start) where
-  whole : Sound (s .args .self)
+  whole : Sound (s .args .board)
   whole = sound-parts _ (s .pre .0)
 
 sub-if1 : tie.Need-sub-if1
@@ -24,7 +24,7 @@ returns : tie.Need-returns
 unfolding verdict
 returns c =
     let s = c .before .before .before .before in
-    let b = s .args .self in
+    let b = s .args .board in
     let f = whole s .fed in
     let w = rw (whole s .sides) at (c .before .before .wanted .ensures) in
     rw (c .when .ensures, lt-ltb (wanted b) (b .fed + length (now (s .args .readings))) (omega arith))
@@ -32,7 +32,7 @@ returns c =
 first-not-possible-requires : tie.Need-first-not-possible-requires
 first-not-possible-requires c κs =
     let s = c .before .before .before .before .before in
-    let b = s .args .self in
+    let b = s .args .board in
     let z = sides-of b (whole s) in
     let f = whole s .fed in
     let w = rw (whole s .sides) at (c .before .before .before .wanted .ensures) in
@@ -43,7 +43,7 @@ returns-2 : tie.Need-returns-2
 unfolding verdict
 returns-2 c =
     let s = c .before .before .before .before .before .before .before .before in
-    let b = s .args .self in
+    let b = s .args .board in
     let f = whole s .fed in
     let w = rw (whole s .sides) at (c .before .before .before .before .before .before .wanted .ensures) in
     rw (

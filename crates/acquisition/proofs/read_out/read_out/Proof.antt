@@ -1,16 +1,16 @@
--- `board::Board::read_out` meets its contract.
+-- `acquisition::read_out::read_out` meets its contract.
 use mathlib.Core.Path.{refl, sym, _∙_}
 use borrow.Author.Needs.{needs}
 use denote.Ref.{now}
-use Rattle.board.specs.Ramp.{readOutOf, readOutWords}
-use Rattle.board.proofs.Checked.{read-out-taken, readable-frame}
-use Rattle.board.proofs.Board.read_out.Statement.{statement}
-use Rattle.board.proofs.Board.read_out.Tie as tie
+use Rattle.acquisition.specs.ReadOut.{readOutOf, readOutWords}
+use Rattle.acquisition.proofs.Checked.{read-out-taken, readable-frame}
+use Rattle.acquisition.proofs.read_out.read_out.Statement.{statement}
+use Rattle.acquisition.proofs.read_out.read_out.Tie as tie
 
 write-frame-requires : tie.Need-write-frame-requires
 write-frame-requires c κs =
     let a = c .before .before .before .before .before .before .args in
-    readable-frame (a .self) (now (a .sums)) (now (a .words)) (read-out-taken (a .self) (now (a .sums)) (now (a .words)) (sym (c .before .before .before .check-read-out .ensures) ∙ c .before .enum-told .given .1))
+    readable-frame (a .board) (now (a .sums)) (now (a .words)) (read-out-taken (a .board) (now (a .sums)) (now (a .words)) (sym (c .before .before .before .check-read-out .ensures) ∙ c .before .enum-told .given .1))
 
 returns : tie.Need-returns
 unfolding readOutOf readOutWords

@@ -1,10 +1,10 @@
--- `board::Board::check_feed` meets its contract.
+-- `acquisition::feed::check_feed` meets its contract.
 use mathlib.Core.Path.{sym, _∙_}
 use borrow.Author.Needs.{needs}
 use Rattle.checks.proofs.Laws.{verdict-append}
 use Rattle.board.proofs.Checked.{ramp-taken}
-use Rattle.board.proofs.Board.check_feed.Statement.{statement}
-use Rattle.board.proofs.Board.check_feed.Tie as tie
+use Rattle.acquisition.proofs.feed.check_feed.Statement.{statement}
+use Rattle.acquisition.proofs.feed.check_feed.Tie as tie
 
 check-readings-requires : tie.Need-check-readings-requires
 check-readings-requires c κs =

@@ -1,13 +1,13 @@
--- `board::Board::feed` meets its contract.
+-- `acquisition::feed::feed` meets its contract.
 use mathlib.Core.Path.{refl, sym, _∙_}
 use native.Mathlib.Omega.{arith}
 use borrow.Author.Needs.{needs}
 use denote.Ref.{now}
-use Rattle.board.specs.Ramp.{feedOf, fedSums}
+use Rattle.acquisition.specs.Feed.{feedOf, fedSums}
 use Rattle.board.proofs.Soundness.{sound-parts, sides-of, wanted-nine}
-use Rattle.board.proofs.Checked.{feed-taken, feedable}
-use Rattle.board.proofs.Board.feed.Statement.{statement}
-use Rattle.board.proofs.Board.feed.Tie as tie
+use Rattle.acquisition.proofs.Checked.{feed-taken, feedable}
+use Rattle.acquisition.proofs.feed.feed.Statement.{statement}
+use Rattle.acquisition.proofs.feed.feed.Tie as tie
 
 feed-requires : tie.Need-feed-requires
 feed-requires c κs =
@@ -17,9 +17,9 @@ extended-requires : tie.Need-extended-requires
 extended-requires c κs =
     let d = c .before .before .before .before in
     let a = d .before .before .before .before .before .args in
-    let t = feed-taken (a .self) (now (a .readings)) (now (a .sums)) (sym (d .before .before .check-feed .ensures) ∙ d .enum-told .given .1) in
-    let s = sound-parts (a .self) (t .ramp .whole) in
-    omega (arith, t .room, wanted-nine (a .self) s, sides-of (a .self) s .few)
+    let t = feed-taken (a .board) (now (a .readings)) (now (a .sums)) (sym (d .before .before .check-feed .ensures) ∙ d .enum-told .given .1) in
+    let s = sound-parts (a .board) (t .ramp .whole) in
+    omega (arith, t .room, wanted-nine (a .board) s, sides-of (a .board) s .few)
 
 returns : tie.Need-returns
 unfolding feedOf fedSums

@@ -1,10 +1,10 @@
--- `board::Board::check_output` meets its contract.
+-- `acquisition::read_out::check_output` meets its contract.
 use borrow.Author.Needs.{needs}
 use Rattle.checks.specs.Checks.{verdict}
 use Rattle.checks.proofs.Laws.{first-taken}
 use Rattle.board.proofs.Soundness.{sound-parts}
-use Rattle.board.proofs.Board.check_output.Statement.{statement}
-use Rattle.board.proofs.Board.check_output.Tie as tie
+use Rattle.acquisition.proofs.read_out.check_output.Statement.{statement}
+use Rattle.acquisition.proofs.read_out.check_output.Tie as tie
 
 first-impossible-requires : tie.Need-first-impossible-requires
 first-impossible-requires c κs = sound-parts _ (c .before .before .before .before .before .before .pre) .in-force .samples-high

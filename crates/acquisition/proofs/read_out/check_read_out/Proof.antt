@@ -1,10 +1,10 @@
--- `board::Board::check_read_out` meets its contract.
+-- `acquisition::read_out::check_read_out` meets its contract.
 use mathlib.Core.Path.{sym, _∙_}
 use borrow.Author.Needs.{needs}
 use Rattle.checks.proofs.Laws.{verdict-append}
 use Rattle.board.proofs.Checked.{ramp-taken}
-use Rattle.board.proofs.Board.check_read_out.Statement.{statement}
-use Rattle.board.proofs.Board.check_read_out.Tie as tie
+use Rattle.acquisition.proofs.read_out.check_read_out.Statement.{statement}
+use Rattle.acquisition.proofs.read_out.check_read_out.Tie as tie
 
 check-output-requires : tie.Need-check-output-requires
 check-output-requires c κs = ramp-taken _ _ (sym (c .before .before .check-ramp .ensures) ∙ c .enum-told .given .1) .whole

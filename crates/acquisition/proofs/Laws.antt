@@ -1,0 +1,67 @@
+-- The laws of Feed and Read out.
+use Prim.Native.Nat.{ℕ, _<_}
+use mathlib.Core.Bool.{false}
+use mathlib.Core.List.{List, []}
+use mathlib.Core.Path.{_≡_, refl}
+use native.Mathlib.Nat.{add-zero}
+use native.Mathlib.Omega.{arith}
+use lib.IntN.{ℤ, pos}
+use lib.ListN.{length}
+use Rattle.laws.specs.Lists.{every}
+use Rattle.checks.specs.declared.Answer.the-variants.{Taken}
+use Rattle.checks.specs.Checks.{verdict}
+use Rattle.entries.specs.Possible.{possible}
+use Rattle.ramp.specs.Feed.{feedAll}
+use Rattle.ramp.proofs.Intervals.{written-none}
+use Rattle.board.specs.declared.Board.{Board}
+use Rattle.board.specs.Board.{sound, extended, ended}
+use Rattle.board.specs.Ramp.{rampChecks}
+use Rattle.board.proofs.Soundness.{sound-parts, sides-of}
+use Rattle.board.proofs.Checked.{ramp-taken}
+use Rattle.board.proofs.Laws.{stays, ended-sound, same-settings, same-sides}
+use Rattle.acquisition.specs.Feed.{feedChecks, feedOf, fedSums}
+use Rattle.acquisition.specs.ReadOut.{readOutChecks, readOutOf, readOutWords}
+use Rattle.acquisition.specs.Laws.{Gives99, AcquisitionLaws}
+use Rattle.acquisition.proofs.Checked.{feed-taken, feed-passes}
+
+feed-sound : (b : Board) (xs : List ℕ) (sums : List ℤ) → sound (feedOf b xs sums .board) ≡ sound b
+unfolding feedOf
+feed-sound b xs sums =
+    stays b (extended (length xs) b) _
+    (λ s e. let t = feed-taken b xs sums e in
+    record { sides = s .sides; waiting = s .waiting; in-force = s .in-force; fed = t .room; idle = rw (t .ramp .running) })
+
+unsound-99 : (b : Board) → sound b ≡ false → Gives99 b
+unfolding feedOf fedSums readOutOf readOutWords verdict
+unsound-99 b s = record { feed = λ xs sums. (rw s, rw s); read-out = λ sums output. (rw s, rw s) }
+
+empty-feed : (b : Board) (sums : List ℤ) → verdict (rampChecks b (length sums)) ≡ Taken
+    → (feedOf b [] sums ≡ record { answer = Taken; board = b }) × (fedSums b [] sums ≡ sums)
+unfolding feedOf fedSums feedAll every
+empty-feed b sums e =
+    let t = ramp-taken b (length sums) e in
+    let s = sound-parts b (t .whole) in
+    let some : 0 < length sums = rw (t .length-is) (sides-of b s .some) in
+    let p = feed-passes b [] sums (record {
+      ramp = t;
+      room = omega (arith, s .fed);
+      readings = refl;
+      entries = written-none (pos 0) possible (length sums) (b .fed) 0 sums some refl;
+    }) in
+    rw (p, add-zero (b .fed)) (refl, refl)
+
+pub laws : AcquisitionLaws
+unfolding feedOf readOutOf
+laws = record {
+  stays-sound = record { feed = feed-sound; read-out = λ b sums output. stays b (ended b) _ (λ s e. ended-sound b s) };
+  unsound-99 = unsound-99;
+  sides-stay = record {
+    feed = λ b xs sums. same-sides (verdict (feedChecks b xs sums)) b (extended (length xs) b) (refl, refl, refl);
+    read-out = λ b sums output. same-sides (verdict (readOutChecks b sums output)) b (ended b) (refl, refl, refl);
+  };
+  settings-stay = record {
+    feed = λ b xs sums. same-settings (verdict (feedChecks b xs sums)) b (extended (length xs) b) (refl, refl);
+    read-out = λ b sums output. same-settings (verdict (readOutChecks b sums output)) b (ended b) (refl, refl);
+  };
+  empty-feed = empty-feed;
+}

@@ -1,0 +1,3 @@
+-- What the checks of Feed and Read out have shown, and the laws of both.
+pub mod Checked
+pub mod Laws
