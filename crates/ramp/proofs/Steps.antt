@@ -1,6 +1,7 @@
 -- The laws of one step.
 --     base-one, base-not    what sample n adds to
---     base-range              it lies where a product can be added
+--     base-addable              a product can be added to it
+--     addable-range, possible-addable     where that is, and that a possible entry lies there
 --     possible-step             a step takes an entry that is possible for k to one that is possible for k + 1; sample 1 takes any entry
 use Prim.Native.Nat.{ℕ, zero, suc, _≤_, _<_}
 use mathlib.Core.Bool.{Bool, true, false, cond}
@@ -8,15 +9,17 @@ use mathlib.Core.Logic.{inl, inr, ⊎-elim}
 use mathlib.Core.Path.{_≡_, refl}
 use native.Mathlib.Omega.{arith}
 use lib.IntN.{ℤ, pos, negℤ, _+ℤ_, _*ℤ_}
-use lib.Signed.{_≤ℤ_}
+use lib.Signed.{leZ, _≤ℤ_}
+use Rattle.laws.proofs.Tests.{and-true}
 use Rattle.laws.proofs.Ints.{sum, signed, is-le, not-le}
 use Rattle.settings.specs.declared.Settings.{Settings}
-use Rattle.settings.specs.Settings.{weightInRange, weightAt}
+use Rattle.settings.specs.Settings.{weightInRange, maxSamples, weightAt}
 use Rattle.settings.proofs.Parts.{InRange}
 use Rattle.entries.specs.Mark.{mark}
 use Rattle.entries.specs.Possible.{readingInRange, possible}
 use Rattle.entries.proofs.Possible.{Mark, Near, fair, is-fair}
 use Rattle.ramp.specs.Step.{overIt, base, stepFrom, step}
+use Rattle.ramp.specs.Requires.{addable}
 use Rattle.ramp.proofs.Products.{product}
 
 pub base-one : (n : ℕ) (e : ℤ) → n ≡ 1 → pos 128 ≡ base n e
@@ -27,15 +30,23 @@ base-not zero e q = refl
 base-not (suc zero) e q = absurd (q refl)
 base-not (suc (suc n)) e q = refl
 
--- an entry that sample n can be added to
-abbrev pub Addable : ℕ → ℤ → Type 0
-Addable n e = (k : ℕ) → 1 ≤ k → n ≡ suc k → possible k e ≡ true
+pub base-addable : (n : ℕ) (e : ℤ) → 1 ≤ n → (1 < n → addable e ≡ true) → addable (base n e) ≡ true
+unfolding addable
+base-addable zero e h a = absurd (omega arith)
+base-addable (suc zero) e h a = refl
+base-addable (suc (suc n)) e h a = a (omega arith)
 
-pub base-range : (n : ℕ) (e : ℤ) → (1 ≤ n) × (n ≤ 9) → Addable n e → (negℤ (pos 1073741824) ≤ℤ base n e) × (base n e ≤ℤ pos 1073741833)
-base-range zero e h a = absurd (omega arith)
-base-range (suc zero) e h a = (record { le = tt }, record { le = tt })
-base-range (suc (suc n)) e h a =
-    ⊎-elim (λ m. omega signed) (λ m. omega signed) (fair (suc n) e (a (suc n) (omega arith) refl))
+pub addable-range : (e : ℤ) → addable e ≡ true → (negℤ (pos 1073741824) ≤ℤ e) × (e ≤ℤ pos 1073741833)
+unfolding addable
+addable-range e t = let h = and-true (leZ (negℤ (mark 0)) e) (leZ e (mark maxSamples)) t in (omega signed, omega signed)
+
+pub possible-addable : (k : ℕ) (e : ℤ) → k ≤ maxSamples → possible k e ≡ true → addable e ≡ true
+unfolding addable
+possible-addable k e few ok =
+    ⊎-elim
+    (λ m. rw (is-le (negℤ (mark 0)) e (omega arith), is-le e (mark maxSamples) (omega arith)))
+    (λ m. rw (is-le (negℤ (mark 0)) e (omega arith), is-le e (mark maxSamples) (omega arith)))
+    (fair k e ok)
 
 pub weight-in-range : (s : Settings) → InRange s → (n : ℕ) → weightInRange (weightAt s n) ≡ true
 weight-in-range s r zero = refl

@@ -1,22 +1,28 @@
--- What the pass of Feed requires. No rule of the product stands here: it is what the board has checked by then.
+-- What the passes of Feed require. No rule of the product stands here: it is what the board has checked by then.
 use Prim.Native.Nat.{ℕ, _+_, _*_, _≤_, _<_}
-use mathlib.Core.Bool.{true}
+use mathlib.Core.Bool.{Bool, true, _&&_}
 use mathlib.Core.List.{List}
 use mathlib.Core.Path.{_≡_}
-use lib.IntN.{ℤ, pos}
+use lib.IntN.{ℤ, pos, negℤ}
 use lib.ListN.{length}
+use lib.Signed.{leZ}
 use Rattle.laws.specs.Lists.{every}
 use Rattle.settings.specs.declared.Settings.{Settings}
-use Rattle.settings.specs.Settings.{inRange}
+use Rattle.settings.specs.Settings.{maxSamples, inRange}
 use Rattle.checks.specs.declared.Found.the-variants.{Nothing}
 use Rattle.checks.specs.Search.{firstPlace}
+use Rattle.entries.specs.Mark.{mark}
 use Rattle.entries.specs.Possible.{readingInRange, possible}
 use Rattle.ramp.specs.Written.{notPossibleAt}
+
+-- an entry that a product can be added to within 32 bits: a mark of sample 1 to 9, or a sum
+unfoldable pub addable : ℤ → Bool
+addable e = leZ (negℤ (mark 0)) e && leZ e (mark maxSamples)
 
 pub record Feedable (s : Settings) (f : ℕ) (xs : List ℕ) (sums : List ℤ) : Type 0 where
   pub some : 0 < length sums
   pub few : length sums ≤ 1048576
   pub settings : inRange s ≡ true
-  pub room : f + length xs ≤ 9 * length sums
+  pub room : f + length xs ≤ maxSamples * length sums
   pub readings : every readingInRange xs ≡ true
   pub entries : firstPlace (length sums) (notPossibleAt (pos 0) possible (length sums) f (length xs) sums) ≡ Nothing

@@ -1,14 +1,14 @@
 // What one reading does to one entry.
 ghost use mathlib.Core.Path.{_≡_};
 ghost use mathlib.Core.Bool.{true, cond};
-ghost use Prim.Native.Nat.{ℕ, suc, _≤_};
-ghost use lib.IntN.{pos, negℤ, natAbs, _*ℤ_};
-ghost use lib.Signed.{_≤ℤ_};
-ghost use Rattle.settings.specs.Settings.{weightInRange, thresholdInRange};
+ghost use Prim.Native.Nat.{_≤_, _<_};
+ghost use lib.IntN.{pos, natAbs, _*ℤ_};
+ghost use Rattle.settings.specs.Settings.{weightInRange, thresholdInRange, maxSamples};
 ghost use Rattle.entries.specs.Mark.{mark};
-ghost use Rattle.entries.specs.Possible.{readingInRange, possible};
+ghost use Rattle.entries.specs.Possible.{readingInRange};
 ghost use Rattle.ramp.specs.Step as Def;
 ghost use Rattle.ramp.specs.Step.{isAbove, stepFrom};
+ghost use Rattle.ramp.specs.Requires.{addable};
 use entries::MARK;
 
 // What sample n adds to: 128 at sample 1, else the entry.
@@ -61,7 +61,7 @@ fn step_from(entry: i32, reading: u16, weight: i32, threshold: u16, mark: i32) -
     requires { ⌜ weightInRange weight ≡ true ⌝ }
     requires { ⌜ thresholdInRange threshold ≡ true ⌝ }
     requires { ⌜ readingInRange reading ≡ true ⌝ }
-    requires { ⌜ (negℤ (pos 1073741824) ≤ℤ entry) × (entry ≤ℤ pos 1073741833) ⌝ }
+    requires { ⌜ addable entry ≡ true ⌝ }
     ensures { λ r. ⌜ r ≡ stepFrom weight (isAbove threshold reading) mark entry reading ⌝ }
 {
     let sum = entry + product(weight, reading);
@@ -71,11 +71,11 @@ fn step_from(entry: i32, reading: u16, weight: i32, threshold: u16, mark: i32) -
 
 // The entry after a reading of sample n.
 pub(crate) fn stepped(entry: i32, reading: u16, n: usize, weight: i32, threshold: u16) -> i32
-    requires { ⌜ (1 ≤ n) × (n ≤ 9) ⌝ }
+    requires { ⌜ (1 ≤ n) × (n ≤ maxSamples) ⌝ }
     requires { ⌜ weightInRange weight ≡ true ⌝ }
     requires { ⌜ thresholdInRange threshold ≡ true ⌝ }
     requires { ⌜ readingInRange reading ≡ true ⌝ }
-    requires { ⌜ ((k : ℕ) → 1 ≤ k → n ≡ suc k → possible k entry ≡ true) ⌝ }
+    requires { ⌜ (1 < n → addable entry ≡ true) ⌝ }
     ensures { λ r. ⌜ r ≡ stepFrom weight (isAbove threshold reading) (mark n) (Def.base n entry) reading ⌝ }
 {
     step_from(base(entry, n), reading, weight, threshold, MARK + n as i32)

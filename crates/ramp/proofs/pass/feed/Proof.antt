@@ -5,32 +5,26 @@ use native.Mathlib.Omega.{arith}
 use native.Mathlib.Nat.{add-sub-cancel-left}
 use native.Mathlib.Numerals.{add-one}
 use borrow.Author.Needs.{needs}
-use borrow.Author.Tests.{le-leb}
 use lib.IntN.{pos}
 use lib.ListN.{length, take, drop}
 use lib.Seq.{take-all}
 use denote.Ref.{now}
-use mir.Syntax.{w32}
-use Rattle.laws.proofs.Ints.{back}
 use Rattle.laws.proofs.Every.{every-take, every-drop}
 use Rattle.laws.proofs.Parts.{part-length}
-use Rattle.settings.specs.Settings.{maxThreshold}
-use Rattle.settings.proofs.Parts.{in-range-parts}
 use Rattle.entries.specs.Possible.{readingInRange}
 use Rattle.ramp.specs.Step.{step}
 use Rattle.ramp.specs.Feed.{feedAll}
-use Rattle.ramp.proofs.Steps.{weight-in-range}
 use Rattle.ramp.proofs.Places.{place, few}
-use Rattle.ramp.proofs.Turn.{turn-possible, turn-next}
+use Rattle.ramp.proofs.Turn.{turn-addable, turn-next}
 use Rattle.ramp.proofs.pass.feed.Statement.{statement}
 use Rattle.ramp.proofs.pass.feed.Tie as tie
 
 abbrev Inv-loop : tie.InvT-loop
-Inv-loop readings sums₀ fed settings threshold m i₀ sums i =
+Inv-loop readings sums₀ fed settings m i₀ sums i =
     (i ≤ length readings) × (length sums ≡ length sums₀) × (sums ≡ feedAll (pos 0) (step settings) (length sums₀) fed (take i readings) sums₀)
 
 abbrev μ-loop : tie.MeasureT-loop
-μ-loop readings sums₀ fed settings threshold m i₀ sums i = length readings - i
+μ-loop readings sums₀ fed settings m i₀ sums i = length readings - i
 
 -- where the turn stands: whole samples, and p pixels of the next
 module _ (b : tie.In-loop Inv-loop μ-loop) where
@@ -68,51 +62,44 @@ sub-least-2 c = omega (arith, here c)
 add-q : tie.Need-add-q Inv-loop μ-loop
 add-q c = omega (arith, here (c .before), s (c .before) .pre .few)
 
-mul-feed-part-2 : tie.Need-mul-feed-part-2 Inv-loop μ-loop
-mul-feed-part-2 c = omega (arith, here (c .before .before .before))
+mul-feed-sample-2 : tie.Need-mul-feed-sample-2 Inv-loop μ-loop
+mul-feed-sample-2 c = omega (arith, here (c .before .before))
 
-part-feed-part-end-2 : tie.Need-part-feed-part-end-2 Inv-loop μ-loop
-part-feed-part-end-2 c = omega (arith, here (c .before .before .before))
+part-feed-sample-end-2 : tie.Need-part-feed-sample-end-2 Inv-loop μ-loop
+part-feed-sample-end-2 c = omega (arith, here (c .before .before))
 
-feed-part-requires : tie.Need-feed-part-requires Inv-loop μ-loop
-feed-part-requires c κs =
-    let b = c .before .before .before .before in
+feed-sample-requires : tie.Need-feed-sample-requires Inv-loop μ-loop
+feed-sample-requires c κs =
+    let b = c .before .before .before in
     let l = b .before .loop in
     let a = s b .args in
     let h = s b .pre in
-    let r = in-range-parts (a .settings) (h .settings) in
-    let k = c .before .before .before .least .result in
-    let w = back w32 (c .before .before .weight .result) (c .before .before .weight .ok) ∙ c .before .before .weight .ensures in
-    simp (add-sub-cancel-left, w) (
+    let k = c .before .before .least .result in
+    simp add-sub-cancel-left (
       part-length (now (a .readings)) (l .i) k (omega arith) ∙ sym (part-length (l .sums) (at b % m b) k (omega (arith, here b))),
       (
         (omega (arith, here b), omega (arith, here b)),
         (
-          weight-in-range (a .settings) r (at b / m b + 1),
+          h .settings,
           (
-            le-leb (a .settings .threshold) maxThreshold (r .threshold),
-            (
-              every-take readingInRange k (drop (l .i) (now (a .readings))) (every-drop readingInRange (l .i) (now (a .readings)) (h .readings)),
-              rw (l .inv .2) (turn-possible (a .settings) (a .fed) (now (a .readings)) (now (a .sums)) h (l .i) k (omega arith) (omega (arith, here b))),
-            ),
+            every-take readingInRange k (drop (l .i) (now (a .readings))) (every-drop readingInRange (l .i) (now (a .readings)) (h .readings)),
+            rw (l .inv .2) (turn-addable (a .settings) (a .fed) (now (a .readings)) (now (a .sums)) h (l .i) k (omega arith) (omega (arith, here b)) (here b .2)),
           ),
         ),
       ),
     )
 
 loop-less : tie.Need-loop-less Inv-loop μ-loop
-loop-less c = omega (arith, here (c .before .before .before .before .before .before))
+loop-less c = omega (arith, here (c .before .before .before .before .before))
 
 loop-again : tie.Need-loop-again Inv-loop μ-loop
-unfolding step
 loop-again c =
-    let b = c .before .before .before .before .before .before in
+    let b = c .before .before .before .before .before in
     let l = b .before .loop in
     let a = s b .args in
     let h = s b .pre in
-    let k = c .before .before .before .before .before .least .result in
-    let w = back w32 (c .before .before .before .before .weight .result) (c .before .before .before .before .weight .ok) ∙ c .before .before .before .before .weight .ensures in
-    let e = simp (add-sub-cancel-left, w, add-one, l .inv .2) at (c .before .feed-part .ensures) in
+    let k = c .before .before .before .before .least .result in
+    let e = simp (add-sub-cancel-left, add-one, l .inv .2) at (c .before .feed-sample .ensures) in
     let n = turn-next (a .settings) (a .fed) (now (a .readings)) (now (a .sums)) h (l .i) k (omega arith) (omega (arith, here b)) in (
       omega arith,
       search needs,
@@ -140,16 +127,15 @@ feed-spec =
     (λ c κs. search needs)
     (λ c. search needs)
     add-q
-    (λ c κs. search needs)
     (λ c. search needs)
     (λ c. search needs)
     (λ c. search needs)
     (λ c. search needs)
-    mul-feed-part-2
+    mul-feed-sample-2
     (λ c. search needs)
     (λ c. search needs)
-    part-feed-part-end-2
-    feed-part-requires
+    part-feed-sample-end-2
+    feed-sample-requires
     loop-less
     loop-again
     (λ c. search needs)
