@@ -21,11 +21,12 @@ use Rattle.checks.specs.Checks.{found, verdict}
 use Rattle.checks.proofs.Laws.{verdict-append, both-taken, when-taken, found-taken}
 use Rattle.checks.proofs.Search.{found-none, found-every}
 use Rattle.entries.specs.Possible.{readingInRange, possible}
+use Rattle.entries.specs.Range.{entryInRange}
+use Rattle.entries.proofs.Range.{possible-in-range}
 use Rattle.ramp.specs.Written.{notPossibleAt}
 use Rattle.ramp.specs.Requires.{Feedable}
 use Rattle.words.specs.Frame.{wordCount}
-use Rattle.words.specs.Requires.{readable, Readable}
-use Rattle.words.proofs.Entries.{possible-readable}
+use Rattle.words.specs.Requires.{Readable}
 use Rattle.board.specs.declared.Board.{Board}
 use Rattle.board.specs.Board.{area, wanted}
 use Rattle.board.specs.Ramp.{rampChecks}
@@ -107,7 +108,7 @@ read-out-passes b sums output t =
 
 pub readable-frame : (b : Board) (sums : List ℤ) (output : List ℕ) → ReadOutTaken b sums (length output)
     → Readable (b .width) (b .height) (b .binned) (b .«in_force» .truncation) sums output
-unfolding readable
+unfolding entryInRange
 readable-frame b sums output t =
     let s = sound-parts b (t .ramp .whole) in
     let z = sides-of b s in
@@ -116,5 +117,5 @@ readable-frame b sums output t =
       room = t .room;
       even = λ e. (z .width .even e, z .height .even e);
       truncation = true-and (le-leb _ _ (s .in-force .truncation-low)) (le-leb _ _ (s .in-force .truncation-high));
-      entries = every-each readable sums (every-all readable sums (pos 0) (λ i h. possible-readable _ _ (s .in-force .samples-high) (every-at (possible (b .«in_force» .samples)) sums (t .entries) (pos 0) i h))) (pos 0) refl;
+      entries = every-each entryInRange sums (every-all entryInRange sums (pos 0) (λ i h. possible-in-range _ _ (s .in-force .samples-high) (every-at (possible (b .«in_force» .samples)) sums (t .entries) (pos 0) i h))) (pos 0) refl;
     }

@@ -2,4 +2,5 @@
 pub mod Marks
 pub mod Readings
 pub mod Possible
+pub mod Range
 pub mod Laws

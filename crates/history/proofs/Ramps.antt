@@ -5,7 +5,6 @@
 use Prim.Native.Nat.{ℕ, _+_, _≤_, _<_}
 use mathlib.Core.Bool.{Bool, true, _&&_}
 use mathlib.Core.List.{List}
-use mathlib.Core.Logic.{⊎-elim}
 use mathlib.Core.Path.{_≡_, refl, _∙_}
 use native.Mathlib.Omega.{arith}
 use lib.IntN.{ℤ, pos, negℤ}
@@ -18,7 +17,7 @@ use Rattle.laws.proofs.Each.{each-length}
 use Rattle.laws.proofs.Every.{every-at}
 use Rattle.checks.specs.declared.Answer.the-variants.{Taken}
 use Rattle.entries.specs.Possible.{readingInRange, possible}
-use Rattle.entries.proofs.Possible.{fair}
+use Rattle.entries.proofs.Range.{possible-in-range, range}
 use Rattle.ramp.specs.Step.{step}
 use Rattle.ramp.proofs.Feeding.{feed-length, feed-past}
 use Rattle.ramp.proofs.Honest.{all-pass}
@@ -37,7 +36,7 @@ inBits z = leZ (negℤ (pos 2147483648)) z && ltZ z (pos 2147483648)
 
 possible-bits : (k : ℕ) (e : ℤ) → k ≤ 9 → possible k e ≡ true → inBits e ≡ true
 possible-bits k e l ok =
-    let z : (dn e ≤ up e + 2147483648) × (up e < dn e + 2147483648) = ⊎-elim (λ m. omega arith) (λ m. omega arith) (fair k e ok) in
+    let z : (dn e ≤ up e + 2147483648) × (up e < dn e + 2147483648) = omega (arith, range e (possible-in-range k e l ok)) in
     true-and (is-le (negℤ (pos 2147483648)) e (omega arith)) (cases (ltZ e (pos 2147483648)) (λ t. t) (λ t. absurd (omega signed)))
 
 pub record Ramp (ℓ : Ledger) (allowed : Allowed) (sums : List ℤ) : Type 0 where

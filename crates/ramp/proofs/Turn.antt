@@ -13,10 +13,12 @@ use Rattle.laws.proofs.Parts.{part-length, part-at}
 use Rattle.settings.specs.declared.Settings.{Settings}
 use Rattle.settings.proofs.Parts.{in-range-parts}
 use Rattle.entries.specs.Possible.{readingInRange, possible}
+use Rattle.entries.specs.Range.{entryInRange}
+use Rattle.entries.proofs.Range.{possible-in-range}
 use Rattle.ramp.specs.Step.{step}
 use Rattle.ramp.specs.Feed.{feedAll}
-use Rattle.ramp.specs.Requires.{addable, Feedable}
-use Rattle.ramp.proofs.Steps.{possible-addable, possible-step}
+use Rattle.ramp.specs.Requires.{Feedable}
+use Rattle.ramp.proofs.Steps.{possible-step}
 use Rattle.ramp.proofs.Places.{place}
 use Rattle.ramp.proofs.Feeding.{feed-length, feed-append, feed-part}
 use Rattle.ramp.proofs.Ready.{Ready, ready-all}
@@ -47,14 +49,14 @@ module _ (s : Settings) (f : ℕ) (xs : List ℕ) (ss : List ℤ) (h : Feedable 
       let c : length (take i xs) + (length xs - i) ≡ length xs = rw taken (omega arith) in
       rw taken at (ready-all (pos 0) (step s) possible m (h .some) (possible-step s (in-range-parts s (h .settings))) (take i xs) f (length xs - i) ss (every-take readingInRange i xs (h .readings)) (rw taken (omega (arith, h .room))) refl (rw c (written-ready (pos 0) possible m f (length xs) ss (h .some) (h .entries))))
 
-  pub turn-addable : n ≤ 8 → 1 < n + 1 → every addable (take k (drop p sums)) ≡ true
+  pub turn-in-range : n ≤ 8 → 1 < n + 1 → every entryInRange (take k (drop p sums)) ≡ true
   unfolding Ready
-  turn-addable few l =
+  turn-in-range few l =
       let a = place (f + i) m (h .some) in
-      every-all addable (take k (drop p sums)) (pos 0)
+      every-all entryInRange (take k (drop p sums)) (pos 0)
       (λ q t.
       let u : q < k = rw (part-length sums p k (rw whole hp)) at t in
-      rw (part-at sums p k q (pos 0) u) (possible-addable n _ (omega arith) (ready (p + q) n (omega arith) (omega arith) (omega arith) (omega arith) (omega arith))))
+      rw (part-at sums p k q (pos 0) u) (possible-in-range n _ (omega arith) (ready (p + q) n (omega arith) (omega arith) (omega arith) (omega arith) (omega arith))))
 
   pub turn-next : take p sums ++ (over (λ x e. step s (suc n) e x) (take k (drop i xs)) (take k (drop p sums)) ++ drop k (drop p sums))
       ≡ feedAll (pos 0) (step s) m f (take (i + k) xs) ss

@@ -1,23 +1,17 @@
--- What the passes of Feed require. No rule of the product stands here: it is what the board has checked by then.
+-- What the pass of Feed requires. No rule of the product stands here: it is what the board has checked by then.
 use Prim.Native.Nat.{ℕ, _+_, _*_, _≤_, _<_}
-use mathlib.Core.Bool.{Bool, true, _&&_}
+use mathlib.Core.Bool.{true}
 use mathlib.Core.List.{List}
 use mathlib.Core.Path.{_≡_}
-use lib.IntN.{ℤ, pos, negℤ}
+use lib.IntN.{ℤ, pos}
 use lib.ListN.{length}
-use lib.Signed.{leZ}
 use Rattle.laws.specs.Lists.{every}
 use Rattle.settings.specs.declared.Settings.{Settings}
 use Rattle.settings.specs.Settings.{maxSamples, inRange}
 use Rattle.checks.specs.declared.Found.the-variants.{Nothing}
 use Rattle.checks.specs.Search.{firstPlace}
-use Rattle.entries.specs.Mark.{mark}
 use Rattle.entries.specs.Possible.{readingInRange, possible}
 use Rattle.ramp.specs.Written.{notPossibleAt}
-
--- an entry that a product can be added to within 32 bits: a mark of sample 1 to 9, or a sum
-unfoldable pub addable : ℤ → Bool
-addable e = leZ (negℤ (mark 0)) e && leZ e (mark maxSamples)
 
 pub record Feedable (s : Settings) (f : ℕ) (xs : List ℕ) (sums : List ℤ) : Type 0 where
   pub some : 0 < length sums

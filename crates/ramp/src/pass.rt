@@ -7,9 +7,10 @@ ghost use Rattle.laws.specs.Lists.{every, over};
 ghost use Rattle.settings.specs.Settings.{weightInRange, thresholdInRange, maxSamples, inRange};
 ghost use Rattle.entries.specs.Mark.{mark};
 ghost use Rattle.entries.specs.Possible.{readingInRange};
+ghost use Rattle.entries.specs.Range.{entryInRange};
 ghost use Rattle.ramp.specs.Step.{isAbove, base, stepFrom, step};
 ghost use Rattle.ramp.specs.Feed.{sumsAfter};
-ghost use Rattle.ramp.specs.Requires.{addable, Feedable};
+ghost use Rattle.ramp.specs.Requires.{Feedable};
 use crate::numbers::least;
 use crate::step::stepped;
 use settings::Settings;
@@ -21,7 +22,7 @@ fn feed_part(readings: &[u16], sums: &mut [i32], n: usize, weight: i32, threshol
     requires { ⌜ weightInRange weight ≡ true ⌝ }
     requires { ⌜ thresholdInRange threshold ≡ true ⌝ }
     requires { ⌜ every readingInRange (now readings) ≡ true ⌝ }
-    requires { ⌜ (1 < n → every addable (now sums) ≡ true) ⌝ }
+    requires { ⌜ (1 < n → every entryInRange (now sums) ≡ true) ⌝ }
     ensures { λ r. ⌜ now (sums .exit) ≡ over (λ x e. stepFrom weight (isAbove threshold x) (mark n) (base n e) x) (now (readings .entry)) (now (sums .entry)) ⌝ }
 {
     let mut i = 0;
@@ -37,7 +38,7 @@ fn feed_sample(readings: &[u16], sums: &mut [i32], n: usize, settings: Settings)
     requires { ⌜ (1 ≤ n) × (n ≤ maxSamples) ⌝ }
     requires { ⌜ inRange settings ≡ true ⌝ }
     requires { ⌜ every readingInRange (now readings) ≡ true ⌝ }
-    requires { ⌜ (1 < n → every addable (now sums) ≡ true) ⌝ }
+    requires { ⌜ (1 < n → every entryInRange (now sums) ≡ true) ⌝ }
     ensures { λ r. ⌜ now (sums .exit) ≡ over (λ x e. step settings n e x) (now (readings .entry)) (now (sums .entry)) ⌝ }
 {
     let weight = settings.weight(n);

@@ -6,9 +6,9 @@ ghost use lib.IntN.{pos, natAbs, _*ℤ_};
 ghost use Rattle.settings.specs.Settings.{weightInRange, thresholdInRange, maxSamples};
 ghost use Rattle.entries.specs.Mark.{mark};
 ghost use Rattle.entries.specs.Possible.{readingInRange};
+ghost use Rattle.entries.specs.Range.{entryInRange};
 ghost use Rattle.ramp.specs.Step as Def;
 ghost use Rattle.ramp.specs.Step.{isAbove, stepFrom};
-ghost use Rattle.ramp.specs.Requires.{addable};
 use entries::MARK;
 
 // What sample n adds to: 128 at sample 1, else the entry.
@@ -61,7 +61,7 @@ fn step_from(entry: i32, reading: u16, weight: i32, threshold: u16, mark: i32) -
     requires { ⌜ weightInRange weight ≡ true ⌝ }
     requires { ⌜ thresholdInRange threshold ≡ true ⌝ }
     requires { ⌜ readingInRange reading ≡ true ⌝ }
-    requires { ⌜ addable entry ≡ true ⌝ }
+    requires { ⌜ entryInRange entry ≡ true ⌝ }
     ensures { λ r. ⌜ r ≡ stepFrom weight (isAbove threshold reading) mark entry reading ⌝ }
 {
     let sum = entry + product(weight, reading);
@@ -75,7 +75,7 @@ pub(crate) fn stepped(entry: i32, reading: u16, n: usize, weight: i32, threshold
     requires { ⌜ weightInRange weight ≡ true ⌝ }
     requires { ⌜ thresholdInRange threshold ≡ true ⌝ }
     requires { ⌜ readingInRange reading ≡ true ⌝ }
-    requires { ⌜ (1 < n → addable entry ≡ true) ⌝ }
+    requires { ⌜ (1 < n → entryInRange entry ≡ true) ⌝ }
     ensures { λ r. ⌜ r ≡ stepFrom weight (isAbove threshold reading) (mark n) (Def.base n entry) reading ⌝ }
 {
     step_from(base(entry, n), reading, weight, threshold, MARK + n as i32)

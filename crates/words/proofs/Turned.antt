@@ -22,13 +22,14 @@ use Rattle.laws.proofs.Numbers.{less}
 use Rattle.laws.proofs.Tests.{clash, cases}
 use Rattle.entries.specs.Mark.{mark, marked, sampleOf}
 use Rattle.entries.proofs.Marks.{is-marked, sample-is, sample-none}
-use Rattle.words.specs.Requires.{readable}
-use Rattle.words.proofs.Entries.{by-kind, range, ahead}
+use Rattle.entries.specs.Range.{entryInRange}
+use Rattle.entries.proofs.Range.{by-kind, range}
+use Rattle.words.proofs.Entries.{ahead}
 
 flip : (u : ℕ) → bitXor u 15 + u % 16 * 2 ≡ u + 15
 flip u = rw (and-mask u 4) at (xor-add-and u 15)
 
-pub turn-near : (e : ℤ) → readable e ≡ true → let t = toZ w32 (bitXor (ofZ w32 e) 15) in (up e + dn t ≤ up t + dn e + 15) × (up t + dn e ≤ up e + dn t + 15)
+pub turn-near : (e : ℤ) → entryInRange e ≡ true → let t = toZ w32 (bitXor (ofZ w32 e) 15) in (up e + dn t ≤ up t + dn e + 15) × (up t + dn e ≤ up e + dn t + 15)
 turn-near (pos n) h = rw (toZ-pos w32 {n = bitXor n 15} (omega (arith, flip n, range (pos n) h))) (omega (arith, flip n))
 turn-near (negsuc m) h =
     let u = 4294967296 - suc m in
@@ -78,7 +79,7 @@ marked-depth : (n : ℕ) → n ≤ 9 → (t : ℤ) → t ≡ pos 2147483663 -ℤ
 marked-depth n h t e = rw (e, less 2147483663 (1073741824 + n) (omega arith)) (omega arith)
 
 -- as the calls return them
-pub found : (e t : ℤ) → SFits w32 e → readable e ≡ true → let v = toZ w32 (ofZ w32 e) in
+pub found : (e t : ℤ) → SFits w32 e → entryInRange e ≡ true → let v = toZ w32 (ofZ w32 e) in
     (marked v ≡ true → t ≡ pos 2147483663 -ℤ v) × ((v ≤ℤ (t +ℤ pos 15)) × (t ≤ℤ (v +ℤ pos 15))) → Found (ahead (sampleOf e)) t
 found e t f h told =
     let near = rw (toZ-ofZ f) at told in (

@@ -26,7 +26,7 @@ use Rattle.settings.specs.Settings.{truncationInRange}
 use Rattle.entries.specs.Mark.{marked, sampleOf}
 use Rattle.entries.proofs.Marks.{is-marked, sample-is, sample-none, by-mark}
 use Rattle.words.specs.Word.{smallestMark, isNegative, cutBy, wordBy, wordOf}
-use Rattle.words.specs.Requires.{readable}
+use Rattle.entries.specs.Range.{entryInRange}
 use Rattle.words.proofs.Entries.{ahead, ahead-smaller, Few, few, few-smaller}
 
 pub in-range : (r : ℕ) → truncationInRange r ≡ true → (1 ≤ r) × (r ≤ 3)
@@ -57,7 +57,7 @@ pixel e r =
 
 -- ---- a square
 
-few-all : (es : List ℤ) → All (λ e. readable e ≡ true) es → Few (smallestMark es)
+few-all : (es : List ℤ) → All (λ e. entryInRange e ≡ true) es → Few (smallestMark es)
 unfolding smallestMark
 few-all [] h = tt
 few-all (e ∷ es) h = few-smaller (sampleOf e) (smallestMark es) (few e (h .0)) (few-all es (h .1))
@@ -68,7 +68,7 @@ word-of r es none t f h = rw (h refl)
 word-of r es (some n) t f h = rw (lt-ltb 0 (15 - n) (omega arith)) (omega arith)
 
 pub square : (a b c d : ℤ) (r k : ℕ) (t : ℤ)
-    → All (λ e. readable e ≡ true) (a ∷ b ∷ c ∷ d ∷ [])
+    → All (λ e. entryInRange e ≡ true) (a ∷ b ∷ c ∷ d ∷ [])
     → k ≡ max (max (ahead (sampleOf a)) (ahead (sampleOf b))) (max (ahead (sampleOf c)) (ahead (sampleOf d)))
     → t ≡ cond (ltb 0 k) (pos 0) (a +ℤ b +ℤ (c +ℤ d))
     → cond (ltb 0 k) (32752 + (15 - k)) (cutWord (2 ^ (r + 2)) t) ≡ wordOf r (a ∷ b ∷ c ∷ d ∷ [])

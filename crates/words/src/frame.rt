@@ -7,7 +7,8 @@ ghost use lib.ListN.{length, getD};
 ghost use Rattle.laws.specs.Lists.{each};
 ghost use Rattle.settings.specs.Settings.{truncationInRange};
 ghost use Rattle.words.specs.Frame.{frameOf};
-ghost use Rattle.words.specs.Requires.{readable, Readable, rowWord};
+ghost use Rattle.entries.specs.Range.{entryInRange};
+ghost use Rattle.words.specs.Requires.{Readable, rowWord};
 use crate::word::pixel_word;
 use crate::word::square_word;
 
@@ -26,8 +27,8 @@ fn write_pixels(sums: &[i32], words: &mut [u16], width: usize, height: usize, tr
 // A row of squares: two rows of sums, each twice as long.
 fn write_row(upper: &[i32], lower: &[i32], words: &mut [u16], truncation: u16)
     requires { ⌜ (length (now upper) ≡ 2 * length (now words)) × (length (now lower) ≡ 2 * length (now words)) ⌝ }
-    requires { ⌜ ((p : ℕ) → readable (getD (now upper) p (pos 0)) ≡ true) ⌝ }
-    requires { ⌜ ((p : ℕ) → readable (getD (now lower) p (pos 0)) ≡ true) ⌝ }
+    requires { ⌜ ((p : ℕ) → entryInRange (getD (now upper) p (pos 0)) ≡ true) ⌝ }
+    requires { ⌜ ((p : ℕ) → entryInRange (getD (now lower) p (pos 0)) ≡ true) ⌝ }
     requires { ⌜ truncationInRange truncation ≡ true ⌝ }
     ensures { λ r. ⌜ now (words .exit) ≡ each (rowWord truncation (now (upper .entry)) (now (lower .entry))) (length (now (words .entry))) ⌝ }
 {

@@ -7,13 +7,13 @@ ghost use lib.IntN.{pos, negℤ, natAbs, _+ℤ_, _-ℤ_};
 ghost use lib.Signed.{_≤ℤ_, leZ, ltZ};
 ghost use Rattle.settings.specs.Settings.{truncationInRange};
 ghost use Rattle.entries.specs.Mark.{marked};
+ghost use Rattle.entries.specs.Range.{entryInRange};
 ghost use Rattle.words.specs.Word.{wordOf, cutBy};
-ghost use Rattle.words.specs.Requires.{readable};
 use entries::MARK;
 
 // An entry with its last four bits turned over: of two marks the earlier one is then the larger, and each sum is still below each mark.
 fn turned(entry: i32) -> i32
-    requires { ⌜ readable entry ≡ true ⌝ }
+    requires { ⌜ entryInRange entry ≡ true ⌝ }
     ensures mark { λ r. ⌜ (marked entry ≡ true → r ≡ pos 2147483663 -ℤ entry) ⌝ }
     ensures near { λ r. ⌜ (entry ≤ℤ (r +ℤ pos 15)) × (r ≤ℤ (entry +ℤ pos 15)) ⌝ }
 {
@@ -63,7 +63,7 @@ fn flagged(marked: bool, sample: i32, word: u32) -> u16
 
 // The word of a pixel.
 pub(crate) fn pixel_word(entry: i32, truncation: u16) -> u16
-    requires { ⌜ readable entry ≡ true ⌝ }
+    requires { ⌜ entryInRange entry ≡ true ⌝ }
     requires { ⌜ truncationInRange truncation ≡ true ⌝ }
     ensures { λ r. ⌜ r ≡ wordOf truncation (entry ∷ []) ⌝ }
 {
@@ -72,8 +72,8 @@ pub(crate) fn pixel_word(entry: i32, truncation: u16) -> u16
 
 // The word of a square.
 pub(crate) fn square_word(a: i32, b: i32, c: i32, d: i32, truncation: u16) -> u16
-    requires { ⌜ (readable a ≡ true) × (readable b ≡ true) ⌝ }
-    requires { ⌜ (readable c ≡ true) × (readable d ≡ true) ⌝ }
+    requires { ⌜ (entryInRange a ≡ true) × (entryInRange b ≡ true) ⌝ }
+    requires { ⌜ (entryInRange c ≡ true) × (entryInRange d ≡ true) ⌝ }
     requires { ⌜ truncationInRange truncation ≡ true ⌝ }
     ensures { λ r. ⌜ r ≡ wordOf truncation (a ∷ b ∷ c ∷ d ∷ []) ⌝ }
 {

@@ -15,7 +15,7 @@ use Rattle.entries.specs.Possible.{readingInRange}
 use Rattle.ramp.specs.Step.{step}
 use Rattle.ramp.specs.Feed.{feedAll}
 use Rattle.ramp.proofs.Places.{place, few}
-use Rattle.ramp.proofs.Turn.{turn-addable, turn-next}
+use Rattle.ramp.proofs.Turn.{turn-in-range, turn-next}
 use Rattle.ramp.proofs.pass.feed.Statement.{statement}
 use Rattle.ramp.proofs.pass.feed.Tie as tie
 
@@ -83,7 +83,7 @@ feed-sample-requires c κs =
           h .settings,
           (
             every-take readingInRange k (drop (l .i) (now (a .readings))) (every-drop readingInRange (l .i) (now (a .readings)) (h .readings)),
-            rw (l .inv .2) (turn-addable (a .settings) (a .fed) (now (a .readings)) (now (a .sums)) h (l .i) k (omega arith) (omega (arith, here b)) (here b .2)),
+            rw (l .inv .2) (turn-in-range (a .settings) (a .fed) (now (a .readings)) (now (a .sums)) h (l .i) k (omega arith) (omega (arith, here b)) (here b .2)),
           ),
         ),
       ),

@@ -16,8 +16,8 @@ use Rattle.laws.proofs.Every.{every-at}
 use Rattle.laws.proofs.Over.{over-at, over-more}
 use Rattle.entries.specs.Mark.{mark}
 use Rattle.entries.specs.Possible.{readingInRange}
+use Rattle.entries.specs.Range.{entryInRange}
 use Rattle.ramp.specs.Step.{isAbove, base, stepFrom}
-use Rattle.ramp.specs.Requires.{addable}
 use Rattle.ramp.proofs.pass.feed_part.Statement.{statement}
 use Rattle.ramp.proofs.pass.feed_part.Tie as tie
 
@@ -49,7 +49,7 @@ stepped-requires c κs =
           h .1 .1 .0,
           (
             every-at readingInRange (now (a .readings)) (h .1 .1 .1 .0) 0 (l .i) (omega arith),
-            λ p. rw (l .inv .2, over-at) (every-at addable (now (a .sums)) (h .1 .1 .1 .1 p) (pos 0) (l .i) (omega arith)),
+            λ p. rw (l .inv .2, over-at) (every-at entryInRange (now (a .sums)) (h .1 .1 .1 .1 p) (pos 0) (l .i) (omega arith)),
           ),
         ),
       ),

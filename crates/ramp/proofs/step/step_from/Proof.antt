@@ -7,8 +7,8 @@ use mir.Val.{SFits, toZ, ofZ}
 use mir.Facts.{toZ-ofZ}
 use Rattle.laws.proofs.Ints.{sum, fits, signed, back}
 use Rattle.entries.proofs.Marks.{over}
+use Rattle.entries.proofs.Range.{range}
 use Rattle.ramp.proofs.Products.{product}
-use Rattle.ramp.proofs.Steps.{addable-range}
 use Rattle.ramp.proofs.step.step_from.Statement.{statement}
 use Rattle.ramp.proofs.step.step_from.Tie as tie
 
@@ -24,7 +24,7 @@ module _ (c : tie.After-product) where
 
   fits-sum : SFits w32 (s .args .entry +ℤ added)
   fits-sum =
-      fits w32 _ (omega (signed, product (s .args .weight) (s .args .reading) (s .pre .0) (s .pre .1 .1 .0), addable-range (s .args .entry) (s .pre .1 .1 .1), sum (s .args .entry) added))
+      fits w32 _ (omega (signed, product (s .args .weight) (s .args .reading) (s .pre .0) (s .pre .1 .1 .0), range (s .args .entry) (s .pre .1 .1 .1), sum (s .args .entry) added))
 
 add-sum : tie.Need-add-sum
 add-sum c = simp (toZ-ofZ, c .before .fits .entry, told c) (fits-sum c)

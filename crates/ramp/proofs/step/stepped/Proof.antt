@@ -9,7 +9,7 @@ use mir.Val.{SFits, toZ, ofZ}
 use mir.Facts.{toZ-ofZ}
 use Rattle.laws.proofs.Ints.{back, toZ-nat}
 use Rattle.ramp.specs.Step.{base}
-use Rattle.ramp.proofs.Steps.{base-addable}
+use Rattle.ramp.proofs.Steps.{base-in-range}
 use Rattle.ramp.proofs.step.stepped.Statement.{statement}
 use Rattle.ramp.proofs.step.stepped.Tie as tie
 
@@ -32,7 +32,7 @@ add-step-from c = rw (sample c) (newMark c)
 step-from-requires : tie.Need-step-from-requires
 step-from-requires c κs =
     let h = c .before .pre in
-    simp (toZ-ofZ, c .before .fits .weight) (h .1 .0, (h .1 .1 .0, (h .1 .1 .1 .0, rw (known c) (base-addable _ _ (h .0 .0) (h .1 .1 .1 .1)))))
+    simp (toZ-ofZ, c .before .fits .weight) (h .1 .0, (h .1 .1 .0, (h .1 .1 .1 .0, rw (known c) (base-in-range _ _ (h .0 .0) (h .1 .1 .1 .1)))))
 
 returns : tie.Need-returns
 returns c =

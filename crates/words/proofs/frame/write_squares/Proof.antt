@@ -13,7 +13,8 @@ use Rattle.laws.specs.Lists.{each}
 use Rattle.laws.proofs.Each.{each-part}
 use Rattle.laws.proofs.Parts.{part-length, part-keeps}
 use Rattle.words.specs.Frame.{wordAt, frameOf}
-use Rattle.words.specs.Requires.{readable, rowWord}
+use Rattle.entries.specs.Range.{entryInRange}
+use Rattle.words.specs.Requires.{rowWord}
 use Rattle.words.proofs.Squares.{sides, room, row-word}
 use Rattle.words.proofs.frame.write_squares.Statement.{statement}
 use Rattle.words.proofs.frame.write_squares.Tie as tie
@@ -74,14 +75,14 @@ part-write-row-end-3 : tie.Need-part-write-row-end-3 Inv-loop μ-loop
 part-write-row-end-3 c = omega (arith, here (c .before .before))
 
 write-row-requires : tie.Need-write-row-requires Inv-loop μ-loop
-unfolding readable
+unfolding entryInRange
 write-row-requires c κs =
     let b = c .before .before .before in
     let l = b .before .loop in
     let a = s b .args in
     let e = here b in
     let q : length (take (h b) (drop (l .to) (l .words))) ≡ h b = part-length (l .words) (l .to) (h b) (omega arith) in
-    let kept = part-keeps (λ z. readable z ≡ true) (pos 0) refl (now (a .sums)) in
+    let kept = part-keeps (λ z. entryInRange z ≡ true) (pos 0) refl (now (a .sums)) in
     simp (add-sub-cancel-left, q) (
       (
         part-length (now (a .sums)) (l .at) (w b) (omega arith) ∙ e .0,

@@ -7,7 +7,7 @@ use mir.Syntax.{w32}
 use mir.Val.{toZ, ofZ}
 use Rattle.laws.proofs.Ints.{sum, signed}
 use Rattle.laws.proofs.Tests.{clash}
-use Rattle.words.proofs.Entries.{by-kind}
+use Rattle.entries.proofs.Range.{by-kind}
 use Rattle.words.proofs.Turned.{turn-near, turn-mark}
 use Rattle.words.proofs.word.turned.Statement.{statement}
 use Rattle.words.proofs.word.turned.Tie as tie
