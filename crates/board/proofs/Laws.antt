@@ -1,12 +1,11 @@
 -- The laws of the operations: what a taken one leaves is sound, and what each keeps.
 use Prim.Native.Nat.{ℕ}
 use mathlib.Core.Bool.{Bool, true, false, not}
-use mathlib.Core.List.{List, _∷_}
+use mathlib.Core.List.{List, [], _∷_}
 use mathlib.Core.Path.{_≡_, refl, sym, _∙_}
 use borrow.Author.Tests.{not-false}
 use native.Mathlib.Omega.{arith}
 use Rattle.settings.specs.declared.Settings.{Settings}
-use Rattle.record.specs.Record.{fieldCount}
 use Rattle.update.specs.Update as SettingsUpdate
 use Rattle.settings.proofs.Parts.{InRange, in-range-parts, in-range-whole}
 use Rattle.settings.proofs.Laws as SettingsLaws
@@ -49,7 +48,7 @@ waiting-sound : (b : Board) (t : Settings) → InRange t → Sound b → Sound (
 waiting-sound b t r s = record { sides = s .sides; waiting = r; in-force = s .in-force; fed = s .fed; idle = s .idle }
 
 -- the settings of a taken record are in range
-resulting-in-range : (s : Settings) (bytes : List ℕ) → InRange s → verdict (SettingsUpdate.updateChecks bytes) ≡ Taken → InRange (SettingsUpdate.resulting bytes fieldCount s)
+resulting-in-range : (s : Settings) (bytes : List ℕ) → InRange s → SettingsUpdate.updateOf s bytes .answer ≡ Taken → InRange (SettingsUpdate.resulting bytes s)
 unfolding SettingsUpdate.updateOf
 resulting-in-range s bytes r e =
     in-range-parts _ (rw e at (UpdateLaws.laws .stays-in-range s bytes (in-range-whole s r)))
@@ -57,8 +56,9 @@ resulting-in-range s bytes r e =
 update-sound : (b : Board) (bytes : List ℕ) → sound (updateOf b bytes .board) ≡ sound b
 unfolding updateOf verdict
 update-sound b bytes =
-    stays b _ (SettingsUpdate.updateChecks bytes)
-    (λ s e. waiting-sound b _ (resulting-in-range (b .waiting) bytes (s .waiting) (both-taken (unsound b) (verdict (SettingsUpdate.updateChecks bytes)) e .1)) s)
+    let answer = SettingsUpdate.updateOf (b .waiting) bytes .answer in
+    stays b _ (answer ∷ [])
+    (λ s e. waiting-sound b _ (resulting-in-range (b .waiting) bytes (s .waiting) (both-taken answer Taken (both-taken (unsound b) (verdict (answer ∷ [])) e .1) .0)) s)
 
 -- ---- Open
 
@@ -136,7 +136,7 @@ laws = record {
     start = λ b. same-sides (verdict (startChecks b)) b (begun b) (refl, refl, refl);
     drop = λ b. same-sides (verdict (dropChecks b)) b (ended b) (refl, refl, refl);
   };
-  update-waiting = λ b bytes. update-waiting (verdict (updateChecks b bytes)) b (SettingsUpdate.resulting bytes fieldCount (b .waiting));
+  update-waiting = λ b bytes. update-waiting (verdict (updateChecks b bytes)) b (SettingsUpdate.resulting bytes (b .waiting));
   start-in-force = λ b e. start-in-force (verdict (startChecks b)) b e;
   start-refused = λ b r e. start-refused (verdict (startChecks b)) b r e;
   drop-keeps = λ b. same-settings (verdict (dropChecks b)) b (ended b) (refl, refl);

@@ -17,9 +17,9 @@ use Rattle.checks.specs.declared.Refusal.{Refusal}
 use Rattle.checks.specs.declared.Answer.{Answer}
 use Rattle.checks.specs.declared.Answer.the-variants.{Taken, Refused}
 use Rattle.checks.specs.Checks.{refusal, when, first, verdict, byAnswer}
-use Rattle.checks.proofs.Laws.{verdict-append}
+use Rattle.checks.proofs.Laws.{first-taken, verdict-append}
 use Rattle.record.specs.Record.{mapOf, unknownBit}
-use Rattle.update.proofs.Overlong.{overlong}
+use Rattle.update.proofs.Overlong.{longest, overlong}
 use Rattle.board.specs.declared.Board.{Board}
 use Rattle.board.specs.Board.{area, wanted, unsound, opened}
 use Rattle.board.specs.Open.{noBoard, openOf}
@@ -88,11 +88,11 @@ module _ (w h : ℕ) (binned : Bool) (bytes : List ℕ) (sums : List ℤ) (outpu
   unfolding frameWords
   crowded-words xs k = rw (crowded-answer xs k) (refused-last before (refusal 12) _ _)
 
-  update-overlong : 26 < length bytes → updated w h binned bytes .answer ≡ verdict (unsound (openOf w h binned .board) ∷ when (unknownBit (mapOf bytes)) 3 ∷ Refused (refusal 4) ∷ [])
+  update-overlong : longest < length bytes → updated w h binned bytes .answer ≡ verdict (unsound (openOf w h binned .board) ∷ when (unknownBit (mapOf bytes)) 3 ∷ Refused (refusal 4) ∷ [])
   unfolding updateOf verdict
-  update-overlong k = ap (first (unsound (openOf w h binned .board))) (overlong bytes k)
+  update-overlong k = ap (first (unsound (openOf w h binned .board))) (first-taken _ ∙ overlong (openOf w h binned .board .waiting) bytes k)
 
-  pub overlong-answer : 26 < length bytes → (xs : List ℕ) → frameAnswer w h binned bytes xs sums output ≡ verdict (overlongChecks w h binned (mapOf bytes) ++ Refused (refusal 4) ∷ [])
+  pub overlong-answer : longest < length bytes → (xs : List ℕ) → frameAnswer w h binned bytes xs sums output ≡ verdict (overlongChecks w h binned (mapOf bytes) ++ Refused (refusal 4) ∷ [])
   unfolding frameAnswer verdict
   overlong-answer k xs =
       rw (update-overlong k)

@@ -19,8 +19,7 @@ use Rattle.laws.proofs.Elements.{every-append, every-made}
 use Rattle.settings.specs.declared.Settings.{Settings}
 use Rattle.update.specs.declared.Updated.{Updated}
 use Rattle.settings.specs.Settings.{defaults, inRange}
-use Rattle.record.specs.Record.{fieldCount}
-use Rattle.update.specs.Update.{updateChecks, resulting, updateOf}
+use Rattle.update.specs.Update.{resulting, updateOf}
 use Rattle.update.proofs.Laws.{laws}
 use Rattle.checks.specs.declared.Answer.the-variants.{Taken}
 use Rattle.checks.specs.Checks.{verdict}
@@ -90,13 +89,13 @@ module _ (w h : ℕ) (binned : Bool) (taken : openOf w h binned .answer ≡ Take
   opening-good = opened-good w h binned taken
 
   -- a record that Update takes
-  module _ (bytes : List ℕ) (fine : verdict (updateChecks bytes) ≡ Taken) where
+  module _ (bytes : List ℕ) (fine : updateOf defaults bytes .answer ≡ Taken) where
     abbrev updated : Ledger
     updated = effect opening (update bytes)
 
     update-goes : refusal opening (update bytes) ≡ Taken
     unfolding verdict
-    update-goes = rw (opening-good .whole) fine
+    update-goes = rw (opening-good .whole, fine)
 
     updated-good : Good updated anySums
     updated-good = taken-good opening-good (update bytes) update-goes
@@ -120,8 +119,8 @@ module _ (w h : ℕ) (binned : Bool) (taken : openOf w h binned .answer ≡ Take
   reached s range cut full ok =
       let u = laws .reachable s defaults range refl in
       let bytes = u .0 in
-      let fine : verdict (updateChecks bytes) ≡ Taken = ap (λ (x : Updated). x .answer) (u .2) in
-      let e : resulting bytes fieldCount defaults ≡ s = rw fine at (ap (λ (x : Updated). x .settings) (u .2)) in
+      let fine : updateOf defaults bytes .answer ≡ Taken = ap (λ (x : Updated). x .answer) (u .2) in
+      let e : resulting bytes defaults ≡ s = rw fine at (ap (λ (x : Updated). x .settings) (u .2)) in
       let rest = reads s (joined cut) cut (started bytes fine) e refl (rw e full) ok in
       let P : Moment → Type 0 = ReadsOut s (joined cut) in
       record {

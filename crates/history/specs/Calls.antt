@@ -7,7 +7,6 @@ use lib.IntN.{ℤ}
 use lib.ListN.{length}
 use Rattle.settings.specs.declared.Settings.{Settings}
 use Rattle.settings.specs.Settings.{defaults}
-use Rattle.record.specs.Record.{fieldCount}
 use Rattle.update.specs.Update.{resulting}
 use Rattle.checks.specs.declared.Answer.{Answer}
 use Rattle.checks.specs.declared.Answer.the-variants.{Taken, Refused}
@@ -81,7 +80,7 @@ effect ℓ (update bytes) = record {
   width = ℓ .width;
   height = ℓ .height;
   binned = ℓ .binned;
-  waiting = resulting bytes fieldCount (ℓ .waiting);
+  waiting = resulting bytes (ℓ .waiting);
   inForce = ℓ .inForce;
   running = ℓ .running;
   readings = ℓ .readings;

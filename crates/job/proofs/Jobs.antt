@@ -21,6 +21,7 @@ use Rattle.checks.specs.declared.Answer.the-variants.{Taken, Refused}
 use Rattle.checks.specs.Checks.{refusal, when, first, verdict, byAnswer}
 use Rattle.checks.proofs.Laws.{first-taken, verdict-append, verdict-rest, both-taken, when-taken}
 use Rattle.record.specs.Record.{mapOf}
+use Rattle.update.proofs.Overlong.{longest}
 use Rattle.words.specs.Frame.{wordCount}
 use Rattle.board.specs.Board.{sidesTaken}
 use Rattle.board.specs.Open.{openOf}
@@ -120,7 +121,7 @@ module _ (bytes : List ℕ) (total : ℕ) where
       by (Refused r) e = refl
 
   -- a record that is too long is refused, with any readings
-  module _ (long : 26 < length (recordOf bytes)) where
+  module _ (long : longest < length (recordOf bytes)) where
     pub overlong-is : jobAnswer bytes total ≡ first (verdict (inputChecks bytes total)) (overlongAnswer (widthOf bytes) (heightOf bytes) (isBinned bytes) (mapOf (recordOf bytes)))
     overlong-is = chain ∙ rw (overlong-answer (widthOf bytes) (heightOf bytes) (isBinned bytes) (recordOf bytes) (zeroSums bytes) (zeroWords bytes) long (readingsOf bytes))
 

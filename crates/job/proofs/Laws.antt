@@ -12,6 +12,7 @@ use Rattle.laws.proofs.Parts.{part-at}
 use Rattle.checks.specs.Checks.{byAnswer}
 use Rattle.frame.specs.Chain.{started, frameAnswer, frameWords}
 use Rattle.job.specs.declared.Job.{Job}
+use Rattle.settings.proofs.Overlong.{longest}
 use Rattle.job.specs.Input.{widthOf, heightOf, binnedByte, isBinned, recordLength, recordOf, readingsAt, pairs, maxReadings, capacity}
 use Rattle.job.specs.Job.{inputChecks, zeroSums, zeroWords, jobAnswer, jobWords, truncationOf, Result}
 use Rattle.job.specs.Laws.{JobLaws}
@@ -78,10 +79,10 @@ module _ (bytes : List ℕ) (total n : ℕ) (room : capacity ≤ n) where
         ∙ at (6 + i) (omega arith)
         ∙ sym (part-at bytes 6 (recordLength bytes) i 0 (omega arith))
 
-    long : 26 < length (recordOf bytes)
+    long : longest < length (recordOf bytes)
     long = rw (length-take (recordLength bytes) (drop 6 bytes), length-drop 6 bytes) (omega arith)
 
-    long-front : 26 < length (recordOf (take n bytes))
+    long-front : longest < length (recordOf (take n bytes))
     long-front = rw (size-is, length-take (recordLength bytes) (drop 6 (take n bytes)), length-drop 6 (take n bytes), length-take n bytes) (omega arith)
 
     long-record : Same

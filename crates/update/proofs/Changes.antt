@@ -16,8 +16,8 @@ use Rattle.record.specs.declared.Field.{Field}
 use Rattle.record.specs.declared.Field.the-variants.{Weight, Threshold, Truncation, Samples}
 use Rattle.settings.specs.declared.Settings.{Settings}
 use Rattle.record.specs.Record.{stands, mapOf, fieldCount, fieldOf, numberOf, weightOf}
-use Rattle.update.specs.Update.{withField, resulting, updateOf}
-use Rattle.update.specs.Laws.{valueIn, meantBy}
+use Rattle.update.specs.Update.{withField, withBits, updateOf}
+use Rattle.settings.specs.Laws.{valueIn, meantBy}
 use Rattle.record.proofs.Fields.{weight-below, field-apart}
 
 module _ (v : ℕ) (s : Settings) where
@@ -52,12 +52,12 @@ module _ (v : ℕ) (s : Settings) where
   untouched Samples Samples d = absurd (d refl)
 
 module _ (s : Settings) (bytes : List ℕ) where
-  pub resulting-length : (n : ℕ) → length (resulting bytes n s .weights) ≡ length (s .weights)
-  unfolding resulting
+  pub resulting-length : (n : ℕ) → length (withBits bytes n s .weights) ≡ length (s .weights)
+  unfolding withBits
   resulting-length zero = refl
   resulting-length (suc n) =
       cases (stands (mapOf bytes) n)
-      (λ t. rw t (length-kept (numberOf bytes n) (resulting bytes n s) (fieldOf n) ∙ resulting-length n))
+      (λ t. rw t (length-kept (numberOf bytes n) (withBits bytes n s) (fieldOf n) ∙ resulting-length n))
       (λ t. rw t (resulting-length n))
 
   -- what a taken update leaves in the field of a bit
@@ -66,13 +66,13 @@ module _ (s : Settings) (bytes : List ℕ) where
 
   module _ (nine : length (s .weights) ≡ 9) (bit : ℕ) (h : bit < fieldCount) where
     abbrev value : ℕ → ℤ
-    value n = valueIn (fieldOf bit) (resulting bytes n s)
+    value n = valueIn (fieldOf bit) (withBits bytes n s)
 
     elsewhere : (n : ℕ) → n < fieldCount → (bit ≡ n → ⊥) → value (suc n) ≡ value n
-    unfolding resulting
+    unfolding withBits
     elsewhere n k d =
         cases (stands (mapOf bytes) n)
-        (λ t. rw t (untouched (numberOf bytes n) (resulting bytes n s) (fieldOf bit) (fieldOf n) (λ e. d (field-apart bit n h k e))))
+        (λ t. rw t (untouched (numberOf bytes n) (withBits bytes n s) (fieldOf bit) (fieldOf n) (λ e. d (field-apart bit n h k e))))
         (λ t. rw t)
 
     before : (n : ℕ) → n ≤ bit → value n ≡ value 0
@@ -80,10 +80,10 @@ module _ (s : Settings) (bytes : List ℕ) where
     before (suc n) k = elsewhere n (omega arith) (λ e. omega arith) ∙ before n (omega arith)
 
     here : value (suc bit) ≡ changed bit
-    unfolding resulting
+    unfolding withBits
     here =
         cases (stands (mapOf bytes) bit)
-        (λ t. rw t (written (numberOf bytes bit) (resulting bytes bit s) (fieldOf bit) (λ i e. rw (resulting-length bit, nine) (weight-below bit i e))))
+        (λ t. rw t (written (numberOf bytes bit) (withBits bytes bit s) (fieldOf bit) (λ i e. rw (resulting-length bit, nine) (weight-below bit i e))))
         (λ t. rw t (before bit (le-refl bit)))
 
     after : (n : ℕ) → bit < n → n ≤ fieldCount → value n ≡ changed bit

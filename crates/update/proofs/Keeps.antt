@@ -19,7 +19,7 @@ use Rattle.record.specs.declared.Field.the-variants.{Weight, Threshold, Truncat
 use Rattle.settings.specs.declared.Settings.{Settings}
 use Rattle.settings.specs.Settings.{weightInRange, thresholdInRange, truncationInRange, samplesInRange, inRange}
 use Rattle.record.specs.Record.{stands, mapOf, fieldCount, fieldOf, numberOf, weightOf}
-use Rattle.update.specs.Update.{checkOf, fieldCheck, updateChecks, withField, withBit, resulting, updateOf}
+use Rattle.update.specs.Update.{checkOf, fieldCheck, updateChecks, withField, withBit, withBits, resulting, updateOf}
 use Rattle.settings.proofs.Parts.{InRange, in-range-parts, in-range-whole}
 
 size-in-range : (m : ℕ) → m < 16 → weightInRange (negℤ (pos m)) ≡ true
@@ -80,12 +80,12 @@ bit-kept bytes bit s p e =
     (λ t. rw t (field-kept s p (numberOf bytes bit) (fieldOf bit) (rw t at e)))
     (λ t. rw t p)
 
-fields-kept : (bytes : List ℕ) (n : ℕ) (s : Settings) → InRange s → verdict (each (fieldCheck bytes) n) ≡ Taken → InRange (resulting bytes n s)
-unfolding resulting
+fields-kept : (bytes : List ℕ) (n : ℕ) (s : Settings) → InRange s → verdict (each (fieldCheck bytes) n) ≡ Taken → InRange (withBits bytes n s)
+unfolding withBits
 fields-kept bytes zero s p e = p
 fields-kept bytes (suc n) s p e =
     let q = both-taken _ _ (rw (verdict-each (fieldCheck bytes) n) at e) in
-    bit-kept bytes n (resulting bytes n s) (fields-kept bytes n s p (q .0)) (q .1)
+    bit-kept bytes n (withBits bytes n s) (fields-kept bytes n s p (q .0)) (q .1)
 
 pub stays-in-range : (s : Settings) (bytes : List ℕ) → inRange s ≡ true → inRange (updateOf s bytes .settings) ≡ true
 unfolding updateOf
@@ -96,6 +96,6 @@ stays-in-range s bytes e =
     p : InRange s
     p = in-range-parts s e
 
-    by : (a : Answer) → (a ≡ Taken → InRange (resulting bytes fieldCount s)) → inRange (byAnswer a (resulting bytes fieldCount s) s) ≡ true
-    by Taken h = in-range-whole (resulting bytes fieldCount s) (h refl)
+    by : (a : Answer) → (a ≡ Taken → InRange (resulting bytes s)) → inRange (byAnswer a (resulting bytes s) s) ≡ true
+    by Taken h = in-range-whole (resulting bytes s) (h refl)
     by (Refused r) h = e

@@ -141,7 +141,7 @@ module _ (s : Settings) (p : InRange s) where
   whole t nine =
       rw is-taken
       (ap taken
-      (same-settings (resulting bytes fieldCount t) s (resulting-length t bytes fieldCount ∙ nine) (p .nine)
+      (same-settings (resulting bytes t) s (resulting-length t bytes fieldCount ∙ nine) (p .nine)
       (λ bit h. resulting-value t bytes nine bit h ∙ rw (every-stands bit h) (right bit h .meant))))
 
 pub reachable : (s t : Settings) → inRange s ≡ true → length (t .weights) ≡ 9

@@ -45,13 +45,17 @@ withField Samples v s = record { weights = s .weights; threshold = s .threshold;
 abbrev pub withBit : List ℕ → ℕ → Settings → Settings
 withBit bytes bit s = cond (stands (mapOf bytes) bit) (withField (fieldOf bit) (numberOf bytes bit) s) s
 
--- the settings that would result, of the bits below n in bit order
-unfoldable pub resulting : List ℕ → ℕ → Settings → Settings
-resulting bytes zero s = s
-resulting bytes (suc bit) s = withBit bytes bit (resulting bytes bit s)
+-- settings with the fields of the bits below n written, in bit order
+unfoldable pub withBits : List ℕ → ℕ → Settings → Settings
+withBits bytes zero s = s
+withBits bytes (suc bit) s = withBit bytes bit (withBits bytes bit s)
+
+-- the settings that would result
+abbrev pub resulting : List ℕ → Settings → Settings
+resulting bytes s = withBits bytes fieldCount s
 
 -- taken whole, or not at all
 unfoldable pub updateOf : Settings → List ℕ → Updated
 updateOf s bytes =
     let answer = verdict (updateChecks bytes) in
-    record { answer = answer; settings = byAnswer answer (resulting bytes fieldCount s) s }
+    record { answer = answer; settings = byAnswer answer (resulting bytes s) s }

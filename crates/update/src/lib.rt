@@ -69,7 +69,7 @@ fn with_field(before: Settings, bit: usize, number: u16) -> Settings
 // The fields in bit order, each that stands in the map checked and written, whatever the checks say.
 fn decode(before: Settings, bytes: &[u8]) -> Decoded
     ensures answer { λ r. ⌜ r .answer ≡ verdict (each (fieldCheck (now (bytes .entry))) fieldCount) ⌝ }
-    ensures settings { λ r. ⌜ r .settings ≡ resulting (now (bytes .entry)) fieldCount before ⌝ }
+    ensures settings { λ r. ⌜ r .settings ≡ resulting (now (bytes .entry)) before ⌝ }
     ensures end { λ r. ⌜ r .end ≡ placeOf (mapOf (now (bytes .entry))) fieldCount ⌝ }
 {
     let map = pair(bytes, 0);

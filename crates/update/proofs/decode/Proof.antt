@@ -10,7 +10,7 @@ use Rattle.laws.specs.Lists.{each}
 use Rattle.checks.specs.Checks.{verdict}
 use Rattle.checks.proofs.Laws.{first-taken, verdict-each}
 use Rattle.record.specs.Record.{fieldCount, mapOf, placeOf}
-use Rattle.update.specs.Update.{fieldCheck, resulting}
+use Rattle.update.specs.Update.{fieldCheck, withBits}
 use Rattle.record.proofs.Fields.{width-small, place-small}
 use Rattle.update.proofs.decode.Statement.{statement}
 use Rattle.update.proofs.decode.Tie as tie
@@ -20,13 +20,13 @@ Inv-loop bytes map answer₀ settings₀ at₀ bit₀ answer settings at bit =
     (bit ≤ fieldCount)
     × (at ≡ placeOf (mapOf bytes) bit)
     × (answer ≡ verdict (each (fieldCheck bytes) bit))
-    × (settings ≡ resulting bytes bit settings₀)
+    × (settings ≡ withBits bytes bit settings₀)
 
 abbrev μ-loop : tie.MeasureT-loop
 μ-loop bytes map answer₀ settings₀ at₀ bit₀ answer settings at bit = fieldCount - bit
 
 loop-holds : tie.Need-loop-holds Inv-loop μ-loop
-unfolding placeOf verdict each resulting
+unfolding placeOf verdict each withBits
 loop-holds c = (omega arith, refl, refl, refl)
 
 add-at : tie.Need-add-at Inv-loop μ-loop
@@ -35,7 +35,7 @@ add-at c =
     omega (arith, place-small (mapOf (now (l .before .before .before .args .bytes))) (l .loop .bit), width-small (c .before .field-of3 .result), c .width .ensures)
 
 loop-again : tie.Need-loop-again Inv-loop μ-loop
-unfolding placeOf resulting
+unfolding placeOf withBits
 loop-again c =
     let l = c .before .before .before in
     let t = rw (l .before .pair .ensures) at (c .before .stands .ensures) in

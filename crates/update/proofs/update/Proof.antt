@@ -36,7 +36,7 @@ module _ (c : tie.After-then3) where
       ∙ both (rw (high-bits (map .result) (omega arith), map .ensures) at (unknown .when2 .ensures))
       (c .before .before .then .ensures ∙ both (rw (decoded .decode .ensures .1 .1) at (length .when3 .ensures)) (decoded .decode .ensures .0)))
 
-taken : (s : Settings) (bytes : List ℕ) {answer : Answer} {next : Settings} → answer ≡ verdict (updateChecks bytes) → next ≡ resulting bytes fieldCount s → answer ≡ Taken
+taken : (s : Settings) (bytes : List ℕ) {answer : Answer} {next : Settings} → answer ≡ verdict (updateChecks bytes) → next ≡ resulting bytes s → answer ≡ Taken
     → _≡_ {A = Updated} (record { answer = answer; settings = next }) (updateOf s bytes)
 unfolding updateOf
 taken s bytes p q e = rw (← p, q, e)

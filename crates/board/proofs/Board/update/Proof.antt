@@ -15,7 +15,7 @@ use Rattle.board.proofs.Board.update.Statement.{statement}
 use Rattle.board.proofs.Board.update.Tie as tie
 
 -- a taken update leaves the record's settings waiting, whatever a refused one would have left
-only-taken : (a r : Answer) (b : Board) (new old : Settings) → leaves (first a r) (withWaiting (byAnswer r new old) b) b ≡ leaves (first a r) (withWaiting new b) b
+only-taken : (a r : Answer) (b : Board) (new old : Settings) → leaves (first a r) (withWaiting (byAnswer r new old) b) b ≡ leaves (first a (first r Taken)) (withWaiting new b) b
 only-taken Taken Taken b new old = refl
 only-taken Taken (Refused x) b new old = refl
 only-taken (Refused x) r b new old = refl
@@ -28,7 +28,7 @@ returns c =
     let b = u .before .before .before .args .self in
     let bytes = now (u .before .before .before .args .bytes) in
     rw (c .leaves .ensures, c .before .with-waiting .ensures, t .then .ensures, t .before .check-sound .ensures, u .update .ensures)
-    (only-taken (unsound b) (verdict (SettingsUpdate.updateChecks bytes)) b (SettingsUpdate.resulting bytes fieldCount (b .waiting)) (b .waiting))
+    (only-taken (unsound b) (SettingsUpdate.updateOf (b .waiting) bytes .answer) b (SettingsUpdate.resulting bytes (b .waiting)) (b .waiting))
 
 pub update-spec : {M : Type 1} → statement M
 update-spec = tie.close (tie.spec (λ c κs. search needs) (λ c κs. search needs) (λ c κs. search needs) (λ c κs. search needs) (λ c κs. search needs) returns)
