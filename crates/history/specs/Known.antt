@@ -6,7 +6,7 @@ use mathlib.Core.Path.{_≡_}
 use lib.IntN.{ℤ, pos, negℤ}
 use lib.ListN.{replicate, set}
 use Rattle.settings.specs.declared.Settings.{Settings}
-use Rattle.settings.specs.Settings.{defaults}
+use Rattle.settings.specs.Settings.{defaults, withWeights, withThreshold, withTruncation, withSamples}
 use Rattle.settings.specs.Covered.{isCovered}
 use Rattle.entries.specs.Mark.{mark}
 use Rattle.ramp.specs.Feed.{sumsAfter}
@@ -36,25 +36,21 @@ abbrev pub AllHold : List Known → Type 0
 AllHold [] = Unit {0}
 AllHold (row ∷ rows) = Holds row × AllHold rows
 
--- the defaults, save for the threshold
-abbrev withThreshold : ℕ → Settings
-withThreshold t = record { weights = defaults .weights; threshold = t; truncation = defaults .truncation; samples = defaults .samples }
-
 -- the defaults, save for N = 1 and weight 1
 abbrev single : ℤ → Settings
-single w = record { weights = set (defaults .weights) 0 w; threshold = defaults .threshold; truncation = defaults .truncation; samples = 1 }
+single w = withSamples 1 (withWeights (set (defaults .weights) 0 w) defaults)
 
 -- the defaults, save for the weights and r
 abbrev all15 : ℕ → Settings
-all15 r = record { weights = replicate 9 (pos 15); threshold = defaults .threshold; truncation = r; samples = defaults .samples }
+all15 r = withTruncation r (withWeights (replicate 9 (pos 15)) defaults)
 
 abbrev pub table : List Known
 table =
     ramp defaults (replicate 9 1000) (pos 128) (pos 128) 32 (Ordinary (limit 128) (limit 132)) false
     ∷ ramp defaults (100 ∷ 200 ∷ 300 ∷ 400 ∷ 500 ∷ 600 ∷ 700 ∷ 800 ∷ 900 ∷ []) (pos 6128) (pos 6128) 1532 (Ordinary (limit 6128) (limit 6132)) false
     ∷ ramp defaults (900 ∷ 800 ∷ 700 ∷ 600 ∷ 500 ∷ 400 ∷ 300 ∷ 200 ∷ 100 ∷ []) (negℤ (pos 5872)) (negℤ (pos 5872)) 32767 Negative false
-    ∷ ramp (withThreshold 13000) (13000 ∷ 13000 ∷ 13001 ∷ 13000 ∷ 13000 ∷ 13000 ∷ 13001 ∷ 13000 ∷ 13000 ∷ []) (pos 128) (mark 3) 32755 (Saturated 3) true
-    ∷ ramp (withThreshold 13000) (replicate 9 13000) (pos 128) (pos 128) 32 (Ordinary (limit 128) (limit 132)) true
+    ∷ ramp (withThreshold 13000 defaults) (13000 ∷ 13000 ∷ 13001 ∷ 13000 ∷ 13000 ∷ 13000 ∷ 13001 ∷ 13000 ∷ 13000 ∷ []) (pos 128) (mark 3) 32755 (Saturated 3) true
+    ∷ ramp (withThreshold 13000 defaults) (replicate 9 13000) (pos 128) (pos 128) 32 (Ordinary (limit 128) (limit 132)) true
     ∷ ramp (single (negℤ (pos 1))) (128 ∷ []) (pos 0) (pos 0) 0 (Ordinary (limit 0) (limit 4)) true
     ∷ ramp (single (negℤ (pos 1))) (129 ∷ []) (negℤ (pos 1)) (negℤ (pos 1)) 32767 Negative true
     ∷ ramp (all15 2) (replicate 9 16383) (pos 2211833) (pos 2211833) 28670 (Ordinary (limit 114680) (limit 114684)) false

@@ -1,4 +1,4 @@
--- The settings: the defaults, the ranges, and the weight of a sample.
+-- The settings: the defaults, the ranges, settings with one part changed, and the weight of a sample.
 use Prim.Native.Nat.{ℕ, zero, suc}
 use mathlib.Core.Bool.{Bool, _&&_}
 use mathlib.Core.List.{List, [], _∷_}
@@ -56,6 +56,19 @@ inRange s =
     && thresholdInRange (s .threshold)
     && truncationInRange (s .truncation)
     && samplesInRange (s .samples)
+
+-- settings with other weights, or another threshold, r or N
+abbrev pub withWeights : List ℤ → Settings → Settings
+withWeights ws s = record { weights = ws; threshold = s .threshold; truncation = s .truncation; samples = s .samples }
+
+abbrev pub withThreshold : ℕ → Settings → Settings
+withThreshold t s = record { weights = s .weights; threshold = t; truncation = s .truncation; samples = s .samples }
+
+abbrev pub withTruncation : ℕ → Settings → Settings
+withTruncation r s = record { weights = s .weights; threshold = s .threshold; truncation = r; samples = s .samples }
+
+abbrev pub withSamples : ℕ → Settings → Settings
+withSamples n s = record { weights = s .weights; threshold = s .threshold; truncation = s .truncation; samples = n }
 
 -- weight n, for samples n from 1
 abbrev pub weightAt : Settings → ℕ → ℤ

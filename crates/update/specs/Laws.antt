@@ -10,8 +10,7 @@ use Rattle.laws.specs.Lists.{every}
 use Rattle.checks.specs.declared.Refusal.{Refusal}
 use Rattle.checks.specs.declared.Answer.the-variants.{Taken, Refused}
 use Rattle.settings.specs.declared.Settings.{Settings}
-use Rattle.settings.specs.Settings.{inRange}
-use Rattle.settings.specs.Laws.{withBoth}
+use Rattle.settings.specs.Settings.{inRange, withThreshold, withTruncation}
 use Rattle.record.specs.declared.Field.{Field}
 use Rattle.record.specs.declared.Field.the-variants.{Weight, Threshold, Truncation, Samples}
 use Rattle.record.specs.Record.{stands, mapOf, fieldCount, fieldOf, numberOf, weightOf}
@@ -48,7 +47,7 @@ pub record UpdateLaws : Type 0 where
   -- the record 00 00 is taken and changes nothing
   pub empty-map : (s : Settings) → updateOf s (0 ∷ 0 ∷ []) ≡ taken s
   -- the record 00 06 1F 33 03 (hexadecimal): threshold 13,087 and r = 3
-  pub known-record : (s : Settings) → updateOf s (0x00 ∷ 0x06 ∷ 0x1F ∷ 0x33 ∷ 0x03 ∷ []) ≡ taken (withBoth 13087 3 s)
+  pub known-record : (s : Settings) → updateOf s (0x00 ∷ 0x06 ∷ 0x1F ∷ 0x33 ∷ 0x03 ∷ []) ≡ taken (withTruncation 3 (withThreshold 13087 s))
   -- all settings in range come of one record of bytes on any others
   pub reachable : (s t : Settings) → inRange s ≡ true → length (t .weights) ≡ 9
       → (bytes : List ℕ) × (every (λ b. ltb b 256) bytes ≡ true) × (updateOf t bytes ≡ taken s)

@@ -12,7 +12,7 @@ use Rattle.record.specs.declared.Field.{Field}
 use Rattle.record.specs.declared.Field.the-variants.{Weight, Threshold, Truncation, Samples}
 use Rattle.settings.specs.declared.Settings.{Settings}
 use Rattle.update.specs.declared.Updated.{Updated}
-use Rattle.settings.specs.Settings.{thresholdInRange, truncationInRange, samplesInRange}
+use Rattle.settings.specs.Settings.{thresholdInRange, truncationInRange, samplesInRange, withWeights, withThreshold, withTruncation, withSamples}
 use Rattle.record.specs.Record.{stands, mapOf, fieldCount, unknownBit, fieldOf, placeOf, numberOf, weightOf}
 
 -- 5: a weight byte above 31. 6: a threshold above 16,383. 7: an r outside 1 to 3. 8: an N outside 1 to 9
@@ -36,10 +36,10 @@ updateChecks bytes =
 
 -- settings with one field written
 abbrev pub withField : Field → ℕ → Settings → Settings
-withField (Weight i) v s = record { weights = set (s .weights) i (weightOf v); threshold = s .threshold; truncation = s .truncation; samples = s .samples }
-withField Threshold v s = record { weights = s .weights; threshold = v; truncation = s .truncation; samples = s .samples }
-withField Truncation v s = record { weights = s .weights; threshold = s .threshold; truncation = v; samples = s .samples }
-withField Samples v s = record { weights = s .weights; threshold = s .threshold; truncation = s .truncation; samples = v }
+withField (Weight i) v s = withWeights (set (s .weights) i (weightOf v)) s
+withField Threshold v s = withThreshold v s
+withField Truncation v s = withTruncation v s
+withField Samples v s = withSamples v s
 
 -- settings with the field of a bit written, if the bit stands
 abbrev pub withBit : List ℕ → ℕ → Settings → Settings
