@@ -24,7 +24,7 @@ use Rattle.settings.specs.Covered.{isCovered, ceiling}
 use Rattle.settings.proofs.Parts.{InRange}
 use Rattle.ramp.specs.Step.{overIt}
 use Rattle.ramp.specs.Exact.{exactSum, entryAfter}
-use Rattle.ramp.proofs.Bounds.{low-of, cover-holds}
+use Rattle.ramp.proofs.Bounds.{cover-holds}
 use Rattle.ramp.proofs.Pixel.{entry-sample}
 use Rattle.words.specs.declared.WordRead.{WordRead}
 use Rattle.words.specs.declared.WordRead.the-variants.{Saturated, Negative}
@@ -113,7 +113,7 @@ module _ (ℓ : Ledger) (range : InRange (ℓ .inForce)) where
     total-under [] h = omega arith
     total-under (p ∷ ps) h =
         let x = readingAt ℓ p in
-        omega (arith, cover-holds s c x (low-of s x N (h .0)), total-under ps (h .1), sum (exactSum s N x) (total (exactSums ℓ ps)), suc-mul (length ps) (ceiling r))
+        omega (arith, cover-holds s c x (h .0), total-under ps (h .1), sum (exactSum s N x) (total (exactSums ℓ ps)), suc-mul (length ps) (ceiling r))
 
     total-lt : (ps : List ℕ) → 0 < length ps → All Under ps → total (exactSums ℓ ps) <ℤ pos (length ps * ceiling r)
     total-lt ps l h =

@@ -12,7 +12,7 @@ use Rattle.ramp.specs.Step.{step}
 use Rattle.ramp.specs.Laws.{RampLaws}
 use Rattle.ramp.proofs.Steps.{possible-step}
 use Rattle.ramp.proofs.Feeding.{feed-length, feed-append}
-use Rattle.ramp.proofs.Bounds.{cover-holds, cover-breaks, worst, worst-low}
+use Rattle.ramp.proofs.Bounds.{cover-holds, cover-breaks, at-most, worst, worst-le}
 use Rattle.ramp.proofs.Agrees.{agrees-none, agrees-all}
 
 pub laws : RampLaws
@@ -23,7 +23,7 @@ laws = record {
       let r = in-range-parts s e in
       agrees-all s r (length sums) (omega arith) [] xs sums (agrees-none s r (length sums) (omega arith) sums refl) .entry p k h;
   covered-is = λ s. (
-    (λ c x low over. omega (signed, cover-holds s c x low)),
-    λ h. cases (isCovered s) (λ t. t) (λ t. absurd (h (worst s) (worst-low s (s .samples)) (cover-breaks s t))),
+    (λ c x low over. omega (signed, cover-holds s c x (λ n a l. at-most s n (x n) (low n a l)))),
+    λ h. cases (isCovered s) (λ t. t) (λ t. absurd (h (worst s) (λ n a l. worst-le s n) (cover-breaks s t))),
   );
 }

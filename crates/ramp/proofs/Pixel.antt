@@ -21,14 +21,14 @@ use Rattle.entries.proofs.Marks.{is-marked, sample-is, sample-none}
 use Rattle.ramp.specs.Step.{overIt, stepFrom, step}
 use Rattle.ramp.specs.Exact.{exactSum, firstOver, markedBy, entryAfter}
 use Rattle.ramp.proofs.Steps.{possible-step}
-use Rattle.ramp.proofs.Bounds.{part, low-of, below-marks}
+use Rattle.ramp.proofs.Bounds.{part, below-marks}
 
 module _ (s : Settings) (r : InRange s) (x : ℕ → ℕ) where
   abbrev over : ℕ → Bool
   over n = overIt s n (x n)
 
   unmarked : (k : ℕ) → Nowhere over k → marked (exactSum s k x) ≡ false
-  unmarked k h = not-le (mark 1) (exactSum s k x) (omega (arith, below-marks s r x k (low-of s x k h)))
+  unmarked k h = not-le (mark 1) (exactSum s k x) (omega (arith, below-marks s r x k h))
 
   pub entry-sample : (k : ℕ) → sampleOf (entryAfter s k x) ≡ firstOver s k x
   entry-sample k = by (firstOver s k x) (first-says over k)
