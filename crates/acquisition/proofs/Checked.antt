@@ -45,7 +45,7 @@ pub record FeedTaken (b : Board) (xs : List ℕ) (sums : List ℤ) : Type 0 wher
   pub ramp : RampTaken b (length sums)
   pub room : b .fed + length xs ≤ wanted b
   pub readings : every readingInRange xs ≡ true
-  pub entries : firstPlace (length sums) (notPossibleAt (pos 0) possible (length sums) (b .fed) (length xs) sums) ≡ Nothing
+  pub entries : firstPlace (length sums) (notPossibleAt (pos 0) (possible (b .«in_force»)) (length sums) (b .fed) (length xs) sums) ≡ Nothing
 
 pub feed-taken : (b : Board) (xs : List ℕ) (sums : List ℤ) → verdict (feedChecks b xs sums) ≡ Taken → FeedTaken b xs sums
 unfolding verdict
@@ -84,7 +84,7 @@ pub record ReadOutTaken (b : Board) (sums : List ℤ) (outputLength : ℕ) : Typ
   pub ramp : RampTaken b (length sums)
   pub full : wanted b ≤ b .fed
   pub room : outputLength ≡ wordCount (b .binned) (area b)
-  pub entries : every (possible (b .«in_force» .samples)) sums ≡ true
+  pub entries : every (possible (b .«in_force») (b .«in_force» .samples)) sums ≡ true
 
 pub read-out-taken : (b : Board) (sums : List ℤ) (output : List ℕ) → verdict (readOutChecks b sums output) ≡ Taken → ReadOutTaken b sums (length output)
 unfolding verdict
@@ -98,13 +98,13 @@ read-out-taken b sums output e =
       ramp = ramp-taken b (length sums) (a .0);
       full = ltb-false _ _ (when-taken _ 15 (p .0));
       room = eqb-true _ _ (not-false _ (when-taken _ 16 (q .0)));
-      entries = none-fails (possible (b .«in_force» .samples)) sums (pos 0) 14 (r .0);
+      entries = none-fails (possible (b .«in_force») (b .«in_force» .samples)) sums (pos 0) 14 (r .0);
     }
 
 pub read-out-passes : (b : Board) (sums : List ℤ) (output : List ℕ) → ReadOutTaken b sums (length output) → verdict (readOutChecks b sums output) ≡ Taken
 unfolding verdict
 read-out-passes b sums output t =
-    rw (verdict-append (rampChecks b (length sums)), ramp-passes b (length sums) (t .ramp), le-ltb _ _ (t .full), eq-eqb _ _ (t .room), found-every (possible (b .«in_force» .samples)) sums (pos 0) (t .entries))
+    rw (verdict-append (rampChecks b (length sums)), ramp-passes b (length sums) (t .ramp), le-ltb _ _ (t .full), eq-eqb _ _ (t .room), found-every (possible (b .«in_force») (b .«in_force» .samples)) sums (pos 0) (t .entries))
 
 pub readable-frame : (b : Board) (sums : List ℤ) (output : List ℕ) → ReadOutTaken b sums (length output)
     → Readable (b .width) (b .height) (b .binned) (b .«in_force» .truncation) sums output
@@ -117,5 +117,5 @@ readable-frame b sums output t =
       room = t .room;
       even = λ e. (z .width .even e, z .height .even e);
       truncation = true-and (le-leb _ _ (s .in-force .truncation-low)) (le-leb _ _ (s .in-force .truncation-high));
-      entries = every-each entryInRange sums (every-all entryInRange sums (pos 0) (λ i h. possible-in-range _ _ (s .in-force .samples-high) (every-at (possible (b .«in_force» .samples)) sums (t .entries) (pos 0) i h))) (pos 0) refl;
+      entries = every-each entryInRange sums (every-all entryInRange sums (pos 0) (λ i h. possible-in-range (b .«in_force») _ _ (s .in-force .samples-high) (every-at (possible (b .«in_force») (b .«in_force» .samples)) sums (t .entries) (pos 0) i h))) (pos 0) refl;
     }

@@ -46,7 +46,7 @@ empty-feed b sums e =
       ramp = t;
       room = omega (arith, s .fed);
       readings = refl;
-      entries = written-none (pos 0) possible (length sums) (b .fed) 0 sums some refl;
+      entries = written-none (pos 0) (possible (b .«in_force»)) (length sums) (b .fed) 0 sums some refl;
     }) in
     rw (p, add-zero (b .fed)) (refl, refl)
 

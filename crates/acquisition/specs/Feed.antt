@@ -22,7 +22,7 @@ abbrev pub readingChecks : Board → List ℕ → List ℤ → List Answer
 readingChecks b readings sums =
     when (ltb (wanted b) (b .fed + length readings)) 12
     ∷ found (firstPlace (length readings) (λ i. not (readingInRange (getD readings i 0)))) 13
-    ∷ found (firstPlace (length sums) (notPossibleAt (pos 0) possible (length sums) (b .fed) (length readings) sums)) 14
+    ∷ found (firstPlace (length sums) (notPossibleAt (pos 0) (possible (b .«in_force»)) (length sums) (b .fed) (length readings) sums)) 14
     ∷ []
 
 abbrev pub feedChecks : Board → List ℕ → List ℤ → List Answer

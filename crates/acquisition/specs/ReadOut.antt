@@ -21,7 +21,7 @@ abbrev pub outputChecks : Board → List ℤ → ℕ → List Answer
 outputChecks b sums outputLength =
     when (ltb (b .fed) (wanted b)) 15
     ∷ when (not (eqb outputLength (wordCount (b .binned) (area b)))) 16
-    ∷ found (firstPlace (length sums) (λ p. not (possible (b .«in_force» .samples) (getD sums p (pos 0))))) 14
+    ∷ found (firstPlace (length sums) (λ p. not (possible (b .«in_force») (b .«in_force» .samples) (getD sums p (pos 0))))) 14
     ∷ []
 
 abbrev pub readOutChecks : Board → List ℤ → List ℕ → List Answer

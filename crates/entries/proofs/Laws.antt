@@ -1,8 +1,8 @@
 -- The laws of entries.
 use mathlib.Core.Path.{refl}
-use Rattle.entries.specs.Possible.{possible}
+use Rattle.entries.specs.Possible.{possibleAfter}
 use Rattle.entries.specs.Laws.{EntryLaws}
 
 pub laws : EntryLaws
-unfolding possible
+unfolding possibleAfter
 laws = record { largest-sum = (refl, refl) }

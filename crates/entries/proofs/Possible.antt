@@ -13,7 +13,7 @@ use lib.Signed.{leZ}
 use Rattle.laws.proofs.Tests.{cases, and-true, or-true, or-right, or-false}
 use Rattle.laws.proofs.Ints.{up, dn, sum, neg-up, neg-dn, is-le, not-le, signed}
 use Rattle.entries.specs.Mark.{mark, marked}
-use Rattle.entries.specs.Possible.{maxProduct, possible}
+use Rattle.entries.specs.Possible.{maxProduct, possibleAfter}
 
 abbrev pub Mark : ℕ → ℤ → Type 0
 Mark k e = (1073741825 + dn e ≤ up e) × (up e ≤ dn e + (1073741824 + k))
@@ -28,16 +28,16 @@ module _ (k : ℕ) where
   low : up (pos 128 -ℤ span) + k * maxProduct ≡ dn (pos 128 -ℤ span) + 128
   low = omega (arith, sum (pos 128) (negℤ span), neg-up span, neg-dn span)
 
-  pub fair : (e : ℤ) → possible k e ≡ true → Mark k e ⊎ Near k e
-  unfolding possible
+  pub fair : (e : ℤ) → possibleAfter k e ≡ true → Mark k e ⊎ Near k e
+  unfolding possibleAfter
   fair e t =
       ⊎-elim
       (λ m. inr (let h = and-true (leZ (pos 128 -ℤ span) e) (leZ e (pos 128 +ℤ span)) m in omega (signed, low)))
       (λ m. inl (let h = and-true (leZ (mark 1) e) (leZ e (mark k)) m in omega signed))
       (or-true (leZ (pos 128 -ℤ span) e && leZ e (pos 128 +ℤ span)) (leZ (mark 1) e && leZ e (mark k)) t)
 
-  pub is-fair : (e : ℤ) → Mark k e ⊎ Near k e → possible k e ≡ true
-  unfolding possible
+  pub is-fair : (e : ℤ) → Mark k e ⊎ Near k e → possibleAfter k e ≡ true
+  unfolding possibleAfter
   is-fair e (inl m) =
       rw (is-le (mark 1) e (omega arith), is-le e (mark k) (omega arith)) (or-right (leZ (pos 128 -ℤ span) e && leZ e (pos 128 +ℤ span)))
   is-fair e (inr m) = rw (is-le (pos 128 -ℤ span) e (omega (arith, low)), is-le e (pos 128 +ℤ span) (omega arith))
@@ -63,8 +63,8 @@ module _ (k : ℕ) where
         (λ u. is-le (e -ℤ gap) (pos 128 +ℤ span) (omega (signed, moved, gap-is)) ∙ sym u)
         (λ u. not-le (e -ℤ gap) (pos 128 +ℤ span) (omega (signed, moved, gap-is)) ∙ sym u))
 
-    pub lowered-is : inside (cond (marked e) (e -ℤ gap) e) ≡ possible k e
-    unfolding possible
+    pub lowered-is : inside (cond (marked e) (e -ℤ gap) e) ≡ possibleAfter k e
+    unfolding possibleAfter
     lowered-is =
         cases (marked e)
         (λ t. rw (t, is-le (pos 128 -ℤ span) e (omega (signed, low)), not-le e (pos 128 +ℤ span) (omega signed)) (mark-inside t))

@@ -11,6 +11,7 @@ use lib.IntN.{ℤ, pos, negℤ}
 use lib.Signed.{leZ, _≤ℤ_}
 use Rattle.laws.proofs.Ints.{up, dn, is-le, signed}
 use Rattle.laws.proofs.Tests.{clash, and-true, or-true, or-right}
+use Rattle.settings.specs.declared.Settings.{Settings}
 use Rattle.settings.specs.Settings.{maxSamples}
 use Rattle.entries.specs.Mark.{mark, marked}
 use Rattle.entries.specs.Possible.{possible}
@@ -18,9 +19,9 @@ use Rattle.entries.specs.Range.{entryInRange}
 use Rattle.entries.proofs.Marks.{by-mark}
 use Rattle.entries.proofs.Possible.{fair}
 
-pub possible-in-range : (k : ℕ) (e : ℤ) → k ≤ maxSamples → possible k e ≡ true → entryInRange e ≡ true
+pub possible-in-range : (s : Settings) (k : ℕ) (e : ℤ) → k ≤ maxSamples → possible s k e ≡ true → entryInRange e ≡ true
 unfolding entryInRange
-possible-in-range k e h p =
+possible-in-range s k e h p =
     ⊎-elim
     (λ m. rw (is-le (mark 1) e (omega arith), is-le e (mark maxSamples) (omega arith)))
     (λ m. rw (is-le (negℤ (pos 268435456)) e (omega arith), is-le e (pos 268435456) (omega arith)) (or-right (leZ (mark 1) e && leZ e (mark maxSamples))))

@@ -4,6 +4,7 @@ use mathlib.Core.Bool.{Bool, _&&_, _||_}
 use lib.Dec.{leb}
 use lib.IntN.{ℤ, pos, _+ℤ_, _-ℤ_}
 use lib.Signed.{leZ}
+use Rattle.settings.specs.declared.Settings.{Settings}
 use Rattle.settings.specs.Settings.{maxWeight}
 use Rattle.settings.specs.Covered.{pedestal}
 use Rattle.entries.specs.Mark.{mark}
@@ -20,7 +21,11 @@ abbrev pub maxProduct : ℕ
 maxProduct = maxWeight * maxReading
 
 -- at most 245,745 × k from 128, or the mark of one of the samples 1 to k
-unfoldable pub possible : ℕ → ℤ → Bool
-possible k e =
+unfoldable pub possibleAfter : ℕ → ℤ → Bool
+possibleAfter k e =
     leZ (pos pedestal -ℤ pos (k * maxProduct)) e && leZ e (pos pedestal +ℤ pos (k * maxProduct))
     || leZ (mark 1) e && leZ e (mark k)
+
+-- *possible* after k samples, the same under all settings
+abbrev pub possible : Settings → ℕ → ℤ → Bool
+possible s k e = possibleAfter k e

@@ -8,7 +8,7 @@ ghost use lib.Signed.{_≤ℤ_};
 ghost use Rattle.laws.specs.Lists.{every};
 ghost use Rattle.checks.specs.Search.{firstPlace};
 ghost use Rattle.entries.specs.Mark.{marked};
-ghost use Rattle.entries.specs.Possible.{readingInRange, possible};
+ghost use Rattle.entries.specs.Possible.{readingInRange, possibleAfter};
 use checks::Found;
 
 // The mark of sample n is this and n more.
@@ -30,7 +30,7 @@ fn lowered(entry: i32, gap: i32) -> i32
 // Whether an entry is possible after k samples. With the mark of sample k moved down to the highest sum, one range holds sums and marks.
 fn is_possible(entry: i32, k: usize) -> bool
     requires { ⌜ k ≤ 9 ⌝ }
-    ensures { λ r. ⌜ r ≡ possible k entry ⌝ }
+    ensures { λ r. ⌜ r ≡ possibleAfter k entry ⌝ }
 {
     let samples = k as i32;
     let span = samples * MAX_PRODUCT;
@@ -42,7 +42,7 @@ fn is_possible(entry: i32, k: usize) -> bool
 // Whether each entry is, with no early exit.
 fn all_possible(sums: &[i32], k: usize) -> bool
     requires { ⌜ k ≤ 9 ⌝ }
-    ensures { λ r. ⌜ r ≡ every (possible k) (now (sums .entry)) ⌝ }
+    ensures { λ r. ⌜ r ≡ every (possibleAfter k) (now (sums .entry)) ⌝ }
 {
     let mut bad = false;
     let mut i = 0;
@@ -56,7 +56,7 @@ fn all_possible(sums: &[i32], k: usize) -> bool
 // The place of the first entry that isn't possible after k samples.
 pub fn first_impossible(sums: &[i32], k: usize) -> Found
     requires { ⌜ k ≤ 9 ⌝ }
-    ensures { λ r. ⌜ r ≡ firstPlace (length (now (sums .entry))) (λ p. not (possible k (getD (now (sums .entry)) p (pos 0)))) ⌝ }
+    ensures { λ r. ⌜ r ≡ firstPlace (length (now (sums .entry))) (λ p. not (possibleAfter k (getD (now (sums .entry)) p (pos 0)))) ⌝ }
 {
     if all_possible(sums, k) {
         return Found::Nothing;

@@ -63,7 +63,7 @@ module _ (b : Board) (none : b .fed ≡ 0) (xs : List ℕ) (sums : List ℤ) (ta
   left-length = feed-length (pos 0) (step (b .«in_force»)) (length sums) xs 0 sums
 
   -- where all readings came, every entry is possible for N
-  entries-possible : wanted b ≤ length xs → every (possible (b .«in_force» .samples)) left ≡ true
+  entries-possible : wanted b ≤ length xs → every (possible (b .«in_force») (b .«in_force» .samples)) left ≡ true
   unfolding left
   entries-possible full =
       let s = b .«in_force» in
@@ -97,7 +97,7 @@ module _ (b : Board) (none : b .fed ≡ 0) (xs : List ℕ) (sums : List ℤ) (ta
       rw (after output, verdict-append (rampChecks (extended (length xs) b) (length left)), ramp-after, z)
       (cases (ltb (length xs) (wanted b))
       (λ e. rw e)
-      (λ e. rw (e, found-every (possible (b .«in_force» .samples)) left (pos 0) (entries-possible (ltb-false _ _ e))) (first-taken _)))
+      (λ e. rw (e, found-every (possible (b .«in_force») (b .«in_force» .samples)) left (pos 0) (entries-possible (ltb-false _ _ e))) (first-taken _)))
 
 module _ (b : Board) (xs : List ℕ) (sums : List ℤ) (output : List ℕ) (taken : first (fed b xs sums .answer) (readOut b xs sums output .answer) ≡ Taken) where
   feed-passed : verdict (feedChecks b xs sums) ≡ Taken

@@ -45,12 +45,12 @@ module _ {ℓ : Ledger} {allowed : Allowed} (good : Good ℓ allowed) where
     agree : Agrees (ℓ .inForce) (area ℓ) (ℓ .readings) sums
     agree = good .sums sums handed size
 
-    pub not-damaged : (count : ℕ) → firstPlace (length sums) (notPossibleAt (pos 0) possible (length sums) (length (ℓ .readings)) count sums) ≡ Nothing
+    pub not-damaged : (count : ℕ) → firstPlace (length sums) (notPossibleAt (pos 0) (possible (ℓ .inForce)) (length sums) (length (ℓ .readings)) count sums) ≡ Nothing
     not-damaged count =
         rw size
         (never-damaged (ℓ .inForce) (parts good .in-force) (area ℓ) (sides good .some) (ℓ .readings) (good .readings) (few good) sums agree count)
 
-    pub full-possible : wanted (viewOf ℓ) ≤ length (ℓ .readings) → every (possible (ℓ .inForce .samples)) sums ≡ true
+    pub full-possible : wanted (viewOf ℓ) ≤ length (ℓ .readings) → every (possible (ℓ .inForce) (ℓ .inForce .samples)) sums ≡ true
     full-possible full =
         let s = parts good in
         all-possible (ℓ .inForce) (s .in-force) (area ℓ) (sides good .some) (ℓ .readings) (good .readings) (few good) sums agree
@@ -69,6 +69,6 @@ module _ {ℓ : Ledger} {allowed : Allowed} (good : Good ℓ allowed) where
       ramp-spares b (length sums) (outputChecks b sums (length output))
       (λ size. when-spares 14 15 _ refl (ltb (b .fed) (wanted b))
       (λ full. when-spares 14 16 _ refl (not (eqb (length output) (wordCount (b .binned) (Board.area b))))
-      (λ t. none-spares 14 14 _ (found-every (possible (ℓ .inForce .samples)) sums (pos 0) (full-possible sums a size (ltb-false _ _ full))))))
+      (λ t. none-spares 14 14 _ (found-every (possible (ℓ .inForce) (ℓ .inForce .samples)) sums (pos 0) (full-possible sums a size (ltb-false _ _ full))))))
   honest drop = tt
   honest covered = tt

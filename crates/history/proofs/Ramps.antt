@@ -16,6 +16,7 @@ use Rattle.laws.proofs.Ints.{up, dn, is-le, signed}
 use Rattle.laws.proofs.Each.{each-length}
 use Rattle.laws.proofs.Every.{every-at}
 use Rattle.checks.specs.declared.Answer.the-variants.{Taken}
+use Rattle.settings.specs.declared.Settings.{Settings}
 use Rattle.entries.specs.Possible.{readingInRange, possible}
 use Rattle.entries.proofs.Range.{possible-in-range, range}
 use Rattle.ramp.specs.Step.{step}
@@ -34,9 +35,9 @@ use Rattle.history.proofs.Honest.{not-damaged, full-possible}
 abbrev pub inBits : ℤ → Bool
 inBits z = leZ (negℤ (pos 2147483648)) z && ltZ z (pos 2147483648)
 
-possible-bits : (k : ℕ) (e : ℤ) → k ≤ 9 → possible k e ≡ true → inBits e ≡ true
-possible-bits k e l ok =
-    let z : (dn e ≤ up e + 2147483648) × (up e < dn e + 2147483648) = omega (arith, range e (possible-in-range k e l ok)) in
+possible-bits : (s : Settings) (k : ℕ) (e : ℤ) → k ≤ 9 → possible s k e ≡ true → inBits e ≡ true
+possible-bits s k e l ok =
+    let z : (dn e ≤ up e + 2147483648) × (up e < dn e + 2147483648) = omega (arith, range e (possible-in-range s k e l ok)) in
     true-and (is-le (negℤ (pos 2147483648)) e (omega arith)) (cases (ltZ e (pos 2147483648)) (λ t. t) (λ t. absurd (omega signed)))
 
 pub record Ramp (ℓ : Ledger) (allowed : Allowed) (sums : List ℤ) : Type 0 where
@@ -75,7 +76,7 @@ module _ {ℓ : Ledger} {allowed : Allowed} {sums : List ℤ} (ramp : Ramp ℓ a
     unfolding fedSums
     left-bits =
         all-pass (ℓ .inForce) (parts fed-good .in-force) (area ℓ) (sides fed-good .some) _ (fed-good .readings) (few fed-good)
-        left (fed-good .sums left (ramp .handed, refl) left-size) inBits possible-bits
+        left (fed-good .sums left (ramp .handed, refl) left-size) inBits (possible-bits (ℓ .inForce))
         (λ p h l. rw (feed-goes, feed-past (pos 0) (step (ℓ .inForce)) (length sums) xs (length (ℓ .readings)) sums p (omega (arith, length-append (ℓ .readings) xs)))
         (every-at inBits sums (ramp .bits) (pos 0) p (rw (ramp .size) h)))
 

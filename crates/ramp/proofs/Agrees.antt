@@ -109,7 +109,7 @@ module _ (s : Settings) (r : InRange s) (m : ℕ) (some : 0 < m) where
     in-range p (suc i) = every-each readingInRange xs ok 0 refl (i * m + p)
 
     pub undamaged : (sums : List ℤ) → Agrees s m xs sums → length xs ≤ 9 * m → (p : ℕ) → p < m → (k : ℕ) → samplesWritten m (length xs) p ≡ k → 1 ≤ k
-        → possible k (getD sums p (pos 0)) ≡ true
+        → possible s k (getD sums p (pos 0)) ≡ true
     undamaged sums a h p hp zero e l = absurd (omega arith)
     undamaged sums a h p hp (suc i) e l =
         let w = rw (e, suc-mul) at (next (length xs) m some p hp) in

@@ -33,22 +33,22 @@ none-fails false b c h = refl
 
 module _ (s : Settings) (r : InRange s) (m : ℕ) (some : 0 < m) (xs : List ℕ) (ok : every readingInRange xs ≡ true)
     (few : length xs ≤ 9 * m) (sums : List ℤ) (agrees : Agrees s m xs sums) where
-  entry : (p : ℕ) → p < m → (k : ℕ) → samplesWritten m (length xs) p ≡ k → 1 ≤ k → possible k (getD sums p (pos 0)) ≡ true
+  entry : (p : ℕ) → p < m → (k : ℕ) → samplesWritten m (length xs) p ≡ k → 1 ≤ k → possible s k (getD sums p (pos 0)) ≡ true
   entry = undamaged s r m some xs ok sums agrees few
 
-  pub never-damaged : (count : ℕ) → firstPlace m (notPossibleAt (pos 0) possible m (length xs) count sums) ≡ Nothing
+  pub never-damaged : (count : ℕ) → firstPlace m (notPossibleAt (pos 0) (possible s) m (length xs) count sums) ≡ Nothing
   never-damaged count =
-      nowhere (notPossibleAt (pos 0) possible m (length xs) count sums) m
+      nowhere (notPossibleAt (pos 0) (possible s) m (length xs) count sums) m
       (λ p h. let k = samplesWritten m (length xs) p in none-fails (leb 1 k) _ _ (λ t. entry p h k refl (leb-true 1 k t)))
 
-  pub all-possible : (n : ℕ) → 1 ≤ n → length xs ≡ n * m → every (possible n) sums ≡ true
+  pub all-possible : (n : ℕ) → 1 ≤ n → length xs ≡ n * m → every (possible s n) sums ≡ true
   all-possible n low e =
-      every-all (possible n) sums (pos 0)
+      every-all (possible s n) sums (pos 0)
       (λ p h. let l : p < m = rw (agrees .whole) at h in
       let w = next (length xs) m some p l in
       entry p l n (same-sample m p (samplesWritten m (length xs) p) n (omega arith) (omega arith)) low)
 
-  pub all-pass : (test : ℤ → Bool) → ((k : ℕ) (e : ℤ) → k ≤ 9 → possible k e ≡ true → test e ≡ true)
+  pub all-pass : (test : ℤ → Bool) → ((k : ℕ) (e : ℤ) → k ≤ 9 → possible s k e ≡ true → test e ≡ true)
       → ((p : ℕ) → p < m → length xs ≤ p → test (getD sums p (pos 0)) ≡ true) → every test sums ≡ true
   all-pass test written brought =
       every-all test sums (pos 0) (λ p h. let l : p < m = rw (agrees .whole) at h in at p l (samplesWritten m (length xs) p) refl)

@@ -59,7 +59,7 @@ module _ (s : Settings) (r : InRange s) (x : ℕ → ℕ) where
   entry-step zero e q = base-step 0
   entry-step (suc k) e q = rw (q (omega arith)) (base-step (suc k))
 
-  pub entry-possible : ((n : ℕ) → readingInRange (x n) ≡ true) → (k : ℕ) → k ≤ 9 → 0 < k → possible k (entryAfter s k x) ≡ true
+  pub entry-possible : ((n : ℕ) → readingInRange (x n) ≡ true) → (k : ℕ) → k ≤ 9 → 0 < k → possible s k (entryAfter s k x) ≡ true
   entry-possible ok zero few l = absurd (omega arith)
   entry-possible ok (suc k) few l =
       rw (← entry-step k (entryAfter s k x) (λ l. refl))

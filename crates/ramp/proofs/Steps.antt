@@ -13,7 +13,7 @@ use Rattle.settings.specs.declared.Settings.{Settings}
 use Rattle.settings.specs.Settings.{weightInRange, weightAt}
 use Rattle.settings.proofs.Parts.{InRange}
 use Rattle.entries.specs.Mark.{mark}
-use Rattle.entries.specs.Possible.{readingInRange, possible}
+use Rattle.entries.specs.Possible.{readingInRange, possibleAfter, possible}
 use Rattle.entries.specs.Range.{entryInRange}
 use Rattle.entries.proofs.Possible.{Mark, Near, fair, is-fair}
 use Rattle.ramp.specs.Step.{overIt, base, stepFrom, step}
@@ -39,23 +39,23 @@ weight-in-range s r (suc i) = r .weights i
 
 module _ (w : ℤ) (x : ℕ) (hw : weightInRange w ≡ true) (hx : readingInRange x ≡ true) (k : ℕ) (few : k ≤ 8) where
   -- on an entry that is near for k, unmarked
-  near-step : (e : ℤ) → Near k e → (above : Bool) → possible (suc k) (stepFrom w above (mark (suc k)) e x) ≡ true
+  near-step : (e : ℤ) → Near k e → (above : Bool) → possibleAfter (suc k) (stepFrom w above (mark (suc k)) e x) ≡ true
   near-step e h above = rw (not-le (mark 1) e (omega arith)) (by above)
     where
-      by : (b : Bool) → possible (suc k) (cond b (mark (suc k)) (e +ℤ w *ℤ pos x)) ≡ true
+      by : (b : Bool) → possibleAfter (suc k) (cond b (mark (suc k)) (e +ℤ w *ℤ pos x)) ≡ true
       by true = is-fair (suc k) (mark (suc k)) (inl (omega arith))
       by false = is-fair (suc k) (e +ℤ w *ℤ pos x) (inr (omega (arith, product w x hw hx, sum e (w *ℤ pos x))))
 
   -- on a mark of a sample up to k
-  mark-step : (e : ℤ) → Mark k e → (above : Bool) → possible (suc k) (stepFrom w above (mark (suc k)) e x) ≡ true
+  mark-step : (e : ℤ) → Mark k e → (above : Bool) → possibleAfter (suc k) (stepFrom w above (mark (suc k)) e x) ≡ true
   mark-step e h above = rw (is-le (mark 1) e (omega arith)) (is-fair (suc k) e (inl (omega arith)))
 
-base-step : (w : ℤ) (above : Bool) (k : ℕ) (e : ℤ) (x : ℕ) → weightInRange w ≡ true → readingInRange x ≡ true → k ≤ 8 → (0 < k → possible k e ≡ true)
-    → possible (suc k) (stepFrom w above (mark (suc k)) (base (suc k) e) x) ≡ true
+base-step : (w : ℤ) (above : Bool) (k : ℕ) (e : ℤ) (x : ℕ) → weightInRange w ≡ true → readingInRange x ≡ true → k ≤ 8 → (0 < k → possibleAfter k e ≡ true)
+    → possibleAfter (suc k) (stepFrom w above (mark (suc k)) (base (suc k) e) x) ≡ true
 base-step w above zero e x hw hx few h = near-step w x hw hx 0 few (pos 128) (omega arith) above
 base-step w above (suc k) e x hw hx few h =
     ⊎-elim (λ m. mark-step w x hw hx (suc k) few e m above) (λ m. near-step w x hw hx (suc k) few e m above) (fair (suc k) e (h (omega arith)))
 
-pub possible-step : (s : Settings) → InRange s → (k : ℕ) (e : ℤ) (x : ℕ) → k ≤ 8 → readingInRange x ≡ true → (0 < k → possible k e ≡ true) → possible (suc k) (step s (suc k) e x) ≡ true
+pub possible-step : (s : Settings) → InRange s → (k : ℕ) (e : ℤ) (x : ℕ) → k ≤ 8 → readingInRange x ≡ true → (0 < k → possible s k e ≡ true) → possible s (suc k) (step s (suc k) e x) ≡ true
 unfolding step
 possible-step s r k e x few ok h = base-step (weightAt s (suc k)) (overIt s (suc k) x) k e x (weight-in-range s r (suc k)) ok few h

@@ -44,10 +44,10 @@ module _ (s : Settings) (f : ℕ) (xs : List ℕ) (ss : List ℤ) (h : Feedable 
   whole : length sums ≡ m
   whole = feed-length (pos 0) (step s) m (take i xs) f ss
 
-  ready : Ready (pos 0) possible m (f + i) (length xs - i) sums
+  ready : Ready (pos 0) (possible s) m (f + i) (length xs - i) sums
   ready =
       let c : length (take i xs) + (length xs - i) ≡ length xs = rw taken (omega arith) in
-      rw taken at (ready-all (pos 0) (step s) possible m (h .some) (possible-step s (in-range-parts s (h .settings))) (take i xs) f (length xs - i) ss (every-take readingInRange i xs (h .readings)) (rw taken (omega (arith, h .room))) refl (rw c (written-ready (pos 0) possible m f (length xs) ss (h .some) (h .entries))))
+      rw taken at (ready-all (pos 0) (step s) (possible s) m (h .some) (possible-step s (in-range-parts s (h .settings))) (take i xs) f (length xs - i) ss (every-take readingInRange i xs (h .readings)) (rw taken (omega (arith, h .room))) refl (rw c (written-ready (pos 0) (possible s) m f (length xs) ss (h .some) (h .entries))))
 
   pub turn-in-range : n ≤ 8 → 1 < n + 1 → every entryInRange (take k (drop p sums)) ≡ true
   unfolding Ready
@@ -56,7 +56,7 @@ module _ (s : Settings) (f : ℕ) (xs : List ℕ) (ss : List ℤ) (h : Feedable 
       every-all entryInRange (take k (drop p sums)) (pos 0)
       (λ q t.
       let u : q < k = rw (part-length sums p k (rw whole hp)) at t in
-      rw (part-at sums p k q (pos 0) u) (possible-in-range n _ (omega arith) (ready (p + q) n (omega arith) (omega arith) (omega arith) (omega arith) (omega arith))))
+      rw (part-at sums p k q (pos 0) u) (possible-in-range s n _ (omega arith) (ready (p + q) n (omega arith) (omega arith) (omega arith) (omega arith) (omega arith))))
 
   pub turn-next : take p sums ++ (over (λ x e. step s (suc n) e x) (take k (drop i xs)) (take k (drop p sums)) ++ drop k (drop p sums))
       ≡ feedAll (pos 0) (step s) m f (take (i + k) xs) ss

@@ -19,4 +19,4 @@ pub record Feedable (s : Settings) (f : ℕ) (xs : List ℕ) (sums : List ℤ) :
   pub settings : inRange s ≡ true
   pub room : f + length xs ≤ maxSamples * length sums
   pub readings : every readingInRange xs ≡ true
-  pub entries : firstPlace (length sums) (notPossibleAt (pos 0) possible (length sums) f (length xs) sums) ≡ Nothing
+  pub entries : firstPlace (length sums) (notPossibleAt (pos 0) (possible s) (length sums) f (length xs) sums) ≡ Nothing

@@ -13,12 +13,12 @@ use Rattle.laws.proofs.Ints.{back}
 use Rattle.checks.specs.declared.Found.the-variants.{Nothing}
 use Rattle.checks.specs.Search.{firstPlace}
 use Rattle.checks.proofs.Search.{found-first, found-more, found-every}
-use Rattle.entries.specs.Possible.{possible}
+use Rattle.entries.specs.Possible.{possibleAfter}
 use Rattle.entries.proofs.first_impossible.Statement.{statement}
 use Rattle.entries.proofs.first_impossible.Tie as tie
 
 abbrev impossible : ℕ → List ℤ → ℕ → Bool
-impossible k sums p = not (possible k (getD sums p (pos 0)))
+impossible k sums p = not (possibleAfter k (getD sums p (pos 0)))
 
 abbrev Inv-loop : tie.InvT-loop
 Inv-loop sums k i₀ i = (i ≤ length sums) × (firstPlace i (impossible k sums) ≡ Nothing)
@@ -29,7 +29,7 @@ abbrev μ-loop : tie.MeasureT-loop
 returns : tie.Need-returns Inv-loop μ-loop
 returns c =
     let a = c .before .before .args in
-    sym (found-every (possible (a .k)) (now (a .sums)) (pos 0) (sym (c .before .all-possible .ensures) ∙ c .if1 .taken))
+    sym (found-every (possibleAfter (a .k)) (now (a .sums)) (pos 0) (sym (c .before .all-possible .ensures) ∙ c .if1 .taken))
 
 loop-holds : tie.Need-loop-holds Inv-loop μ-loop
 unfolding firstPlace
@@ -43,7 +43,7 @@ module _ (c : tie.After-is-possible Inv-loop μ-loop) where
   abbrev i : ℕ
   i = c .before .before .before .loop .i
 
-  told : c .is-possible .result ≡ possible (s .args .k) (getD (now (s .args .sums)) i (pos 0))
+  told : c .is-possible .result ≡ possibleAfter (s .args .k) (getD (now (s .args .sums)) i (pos 0))
   told = simp (back w32 (getD (now (s .args .sums)) i (pos 0)) (c .before .is-possible-arg .given)) at (c .is-possible .ensures)
 
 loop-again : tie.Need-loop-again Inv-loop μ-loop

@@ -10,7 +10,7 @@ use denote.Ref.{now}
 use Rattle.laws.proofs.Parts.{part-length, part-at}
 use Rattle.checks.specs.Search.{firstPlace, shifted}
 use Rattle.checks.proofs.Search.{found-same, found-below}
-use Rattle.entries.specs.Possible.{possible}
+use Rattle.entries.specs.Possible.{possibleAfter}
 use Rattle.ramp.proofs.written.first_between.Statement.{statement}
 use Rattle.ramp.proofs.written.first_between.Tie as tie
 
@@ -20,14 +20,14 @@ module _ (c : tie.After-first-impossible) where
   s = c .before .before
 
   told : c .first-impossible .result
-      ≡ firstPlace (s .args .end - s .args .start) (λ i. not (possible (s .args .k) (getD (now (s .args .sums)) (s .args .start + i) (pos 0))))
+      ≡ firstPlace (s .args .end - s .args .start) (λ i. not (possibleAfter (s .args .k) (getD (now (s .args .sums)) (s .args .start + i) (pos 0))))
   told =
       let a = s .args in
       let n = a .end - a .start in
       let l = now (a .sums) in
       let e : length (take n (drop (a .start) l)) ≡ n = part-length l (a .start) n (omega arith) in
       rw e at (c .first-impossible .ensures)
-      ∙ found-same (λ i. not (possible (a .k) (getD (take n (drop (a .start) l)) i (pos 0)))) (λ i. not (possible (a .k) (getD l (a .start + i) (pos 0)))) n
+      ∙ found-same (λ i. not (possibleAfter (a .k) (getD (take n (drop (a .start) l)) i (pos 0)))) (λ i. not (possibleAfter (a .k) (getD l (a .start + i) (pos 0)))) n
       (λ i h. rw (part-at l (a .start) n i (pos 0) h))
 
 shifted-requires : tie.Need-shifted-requires

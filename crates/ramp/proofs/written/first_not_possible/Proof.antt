@@ -10,7 +10,7 @@ use lib.ListN.{length, getD}
 use denote.Ref.{now}
 use Rattle.checks.specs.Search.{firstPlace}
 use Rattle.checks.proofs.Search.{found-start}
-use Rattle.entries.specs.Possible.{possible}
+use Rattle.entries.specs.Possible.{possibleAfter}
 use Rattle.ramp.proofs.Places.{place, few}
 use Rattle.ramp.proofs.Intervals.{written-found, written-first, written-none}
 use Rattle.ramp.proofs.written.first_not_possible.Statement.{statement}
@@ -20,7 +20,7 @@ returns : tie.Need-returns
 returns c =
     let a = c .before .args in
     let l = now (a .sums) in
-    sym (written-none (pos 0) possible (length l) (a .fed) (a .count) l (c .before .pre .0) (c .if1 .taken))
+    sym (written-none (pos 0) possibleAfter (length l) (a .fed) (a .count) l (c .before .pre .0) (c .if1 .taken))
 
 -- where the Feed brings a reading
 module _ (b : tie.Else1) where
@@ -40,7 +40,7 @@ module _ (b : tie.Else1) where
   here = (place (s .args .fed) m (s .pre .0) .1, few (s .args .fed) m (s .pre .0) (omega arith))
 
   fails : ℕ → ℕ → Bool
-  fails n p = not (possible n (getD (now (s .args .sums)) p (pos 0)))
+  fails n p = not (possibleAfter n (getD (now (s .args .sums)) p (pos 0)))
 
 add-beyond : tie.Need-add-beyond
 add-beyond c = omega (arith, here c)
@@ -68,7 +68,7 @@ returns-2 c =
     let x = b (c .before) in
     let a = s x .args in
     let l = now (a .sums) in
-    low (c .before) ∙ sym (written-first (pos 0) possible (length l) (a .fed) (a .count) l (s x .pre .0) (c .if2 .taken))
+    low (c .before) ∙ sym (written-first (pos 0) possibleAfter (length l) (a .fed) (a .count) l (s x .pre .0) (c .if2 .taken))
 
 add-least : tie.Need-add-least
 add-least c = omega (arith, here (b (c .before)))
@@ -85,7 +85,7 @@ returns-3 c =
     let l = now (a .sums) in
     c .or-else .ensures
     ∙ rw (low d, rw (c .before .before .least2 .ensures) at (c .before .first-between2 .ensures))
-    (sym (written-found (pos 0) possible (length l) (a .fed) (a .count) l (s x .pre .0) (omega arith)))
+    (sym (written-found (pos 0) possibleAfter (length l) (a .fed) (a .count) l (s x .pre .0) (omega arith)))
 
 pub first-not-possible-spec : {M : Type 1} → statement M
 first-not-possible-spec =
