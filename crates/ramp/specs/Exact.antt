@@ -7,6 +7,7 @@ use lib.ListN.{getD}
 use Rattle.laws.specs.Numbers.{sumTo, firstOf}
 use Rattle.settings.specs.declared.Settings.{Settings}
 use Rattle.settings.specs.Settings.{weightAt}
+use Rattle.settings.specs.Covered.{pedestal}
 use Rattle.entries.specs.Mark.{mark}
 use Rattle.ramp.specs.Step.{overIt}
 
@@ -17,7 +18,7 @@ readingOf m readings p (suc i) = getD readings (i * m + p) 0
 
 -- the exact sum of k samples: 128, and weight × reading of each
 abbrev pub exactSum : Settings → ℕ → (ℕ → ℕ) → ℤ
-exactSum s k reading = pos 128 +ℤ sumTo k (λ n. weightAt s n *ℤ pos (reading n))
+exactSum s k reading = pos pedestal +ℤ sumTo k (λ n. weightAt s n *ℤ pos (reading n))
 
 -- the first sample up to k whose reading is over the threshold
 abbrev pub firstOver : Settings → ℕ → (ℕ → ℕ) → Option ℕ

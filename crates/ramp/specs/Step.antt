@@ -5,6 +5,7 @@ use lib.Dec.{ltb}
 use lib.IntN.{ℤ, pos, _+ℤ_, _*ℤ_}
 use Rattle.settings.specs.declared.Settings.{Settings}
 use Rattle.settings.specs.Settings.{weightAt}
+use Rattle.settings.specs.Covered.{pedestal}
 use Rattle.entries.specs.Mark.{mark, marked}
 
 -- a reading x above the threshold t: equal to it isn't above it
@@ -18,7 +19,7 @@ overIt s n x = isAbove (s .threshold) x
 -- what sample n adds to: 128 at sample 1, whatever the entry held; the entry at any later one (there is no sample 0)
 abbrev pub base : ℕ → ℤ → ℤ
 base zero e = e
-base (suc zero) e = pos 128
+base (suc zero) e = pos pedestal
 base (suc (suc n)) e = e
 
 -- a marked entry stays; a reading over the threshold puts the mark in the entry's place; any other adds weight × reading

@@ -1,5 +1,5 @@
 -- All settings in range come of one record on any others: the record with every field.
-use Prim.Native.Nat.{ℕ, suc, _+_, _*_, _/_, _%_, _^_, _≤_, _<_}
+use Prim.Native.Nat.{ℕ, suc, _+_, _-_, _*_, _/_, _%_, _^_, _≤_, _<_}
 use mathlib.Core.Bool.{true}
 use mathlib.Core.List.{List, [], _∷_, _++_}
 use mathlib.Core.Path.{_≡_, refl, sym, ap, _∙_}
@@ -48,15 +48,18 @@ encoded (negsuc n) e =
     let d : (17 + n) / 16 ≡ 1 = omega arith in
     record { small = omega arith; back = rw (d, m) }
 
--- ---- the map 0FFF: every field stands, the weights from the third byte on
+-- ---- the map of all fields; the weights stand from the third byte on
 
-every-stands : (bit : ℕ) → bit < fieldCount → stands 4095 bit ≡ true
+abbrev allFields : ℕ
+allFields = 2 ^ fieldCount - 1
+
+every-stands : (bit : ℕ) → bit < fieldCount → stands allFields bit ≡ true
 unfolding every each stands
-every-stands = table (stands 4095) fieldCount refl
+every-stands = table (stands allFields) fieldCount refl
 
-weight-place : (i : ℕ) → i < 9 → placeOf 4095 i ≡ suc (suc i)
+weight-place : (i : ℕ) → i < 9 → placeOf allFields i ≡ suc (suc i)
 unfolding every each placeOf stands fieldOf
-weight-place i h = eqb-true _ _ (table (λ k. eqb (placeOf 4095 k) (suc (suc k))) 9 refl i h)
+weight-place i h = eqb-true _ _ (table (λ k. eqb (placeOf allFields k) (suc (suc k))) 9 refl i h)
 
 -- ---- settings that hold the same in every field are the same
 
@@ -85,12 +88,12 @@ module _ (s : Settings) (p : InRange s) where
   last = (s .threshold % 256) ∷ (s .threshold / 256) ∷ s .truncation ∷ s .samples ∷ []
 
   abbrev bytes : List ℕ
-  bytes = 255 ∷ 15 ∷ (each weightByte 9 ++ last)
+  bytes = (allFields % 256) ∷ (allFields / 256) ∷ (each weightByte 9 ++ last)
 
   weight-code : (i : ℕ) → Encoded (getD (s .weights) i (pos 0))
   weight-code i = encoded (getD (s .weights) i (pos 0)) (p .weights i)
 
-  weight-number : (i : ℕ) → i < 9 → getD bytes (placeOf 4095 i) 0 ≡ weightByte i
+  weight-number : (i : ℕ) → i < 9 → getD bytes (placeOf allFields i) 0 ≡ weightByte i
   weight-number i h =
       rw (weight-place i h)
       (List·getD-append (each weightByte 9) last 0 i (rw (each-length weightByte 9) h) ∙ each-at weightByte 9 i 0 h)
@@ -100,23 +103,23 @@ module _ (s : Settings) (p : InRange s) where
     pub meant : meantBy f v ≡ valueIn f s
     pub fine : checkOf f v ≡ Taken
 
-  right-threshold : Right Threshold (numberAt Threshold bytes (placeOf 4095 9))
+  right-threshold : Right Threshold (numberAt Threshold bytes (placeOf allFields 9))
   unfolding each placeOf stands fieldOf
   right-threshold =
       let e : s .threshold % 256 + 256 * (s .threshold / 256) ≡ s .threshold = omega arith in
       record { meant = ap pos e; fine = rw (e, le-leb _ _ (p .threshold)) }
 
-  right-truncation : Right Truncation (numberAt Truncation bytes (placeOf 4095 10))
+  right-truncation : Right Truncation (numberAt Truncation bytes (placeOf allFields 10))
   unfolding each placeOf stands fieldOf
   right-truncation = record { meant = refl; fine = rw (le-leb _ _ (p .truncation-low), le-leb _ _ (p .truncation-high)) }
 
-  right-samples : Right Samples (numberAt Samples bytes (placeOf 4095 11))
+  right-samples : Right Samples (numberAt Samples bytes (placeOf allFields 11))
   unfolding each placeOf stands fieldOf
   right-samples = record { meant = refl; fine = rw (le-leb _ _ (p .samples-low), le-leb _ _ (p .samples-high)) }
 
   right : (bit : ℕ) → bit < fieldCount → Right (fieldOf bit) (numberOf bytes bit)
   right bit h =
-      field-cases (λ f. Right f (numberAt f bytes (placeOf 4095 bit))) bit
+      field-cases (λ f. Right f (numberAt f bytes (placeOf allFields bit))) bit
       (λ l. rw (weight-number bit l) (record { meant = weight-code bit .back; fine = rw (le-ltb _ _ (weight-code bit .small)) }))
       (λ e. rw e right-threshold)
       (λ e. rw e right-truncation)
