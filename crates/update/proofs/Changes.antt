@@ -17,7 +17,7 @@ use Rattle.record.specs.declared.Field.the-variants.{Weight, Threshold, Truncat
 use Rattle.settings.specs.declared.Settings.{Settings}
 use Rattle.record.specs.Record.{stands, mapOf, fieldCount, fieldOf, numberOf, weightOf}
 use Rattle.update.specs.Update.{withField, withBits, updateOf}
-use Rattle.settings.specs.Laws.{valueIn, meantBy}
+use Rattle.update.specs.Laws.{valueIn, meantBy}
 use Rattle.record.proofs.Fields.{weight-below, field-apart}
 
 module _ (v : ℕ) (s : Settings) where
