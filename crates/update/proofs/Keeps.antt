@@ -2,13 +2,15 @@
 use Prim.Native.Nat.{ℕ, zero, suc, _<_, _%_}
 use mathlib.Core.Bool.{true}
 use mathlib.Core.List.{List}
-use mathlib.Core.Path.{_≡_, refl, _∙_}
-use borrow.Author.Tests.{leb-true, le-leb, not-false}
+use mathlib.Core.Path.{_≡_, refl}
+use borrow.Author.Tests.{le-leb, not-false}
 use native.Mathlib.Omega.{arith}
-use lib.IntN.{pos, negℤ}
-use lib.ListN.{length-set}
-use Rattle.laws.specs.Lists.{each}
+use lib.IntN.{ℤ, pos, negℤ}
+use lib.ListN.{length, set, length-set}
+use lib.Dec.{eqb}
+use Rattle.laws.specs.Lists.{each, every}
 use Rattle.laws.proofs.Tests.{cases, and-true, true-and}
+use Rattle.laws.proofs.Every.{every-all, every-each}
 use Rattle.laws.proofs.Elements.{every-set}
 use Rattle.checks.specs.declared.Answer.{Answer}
 use Rattle.checks.specs.declared.Answer.the-variants.{Taken, Refused}
@@ -17,10 +19,9 @@ use Rattle.checks.proofs.Laws.{verdict-each, both-taken, verdict-rest, when-tak
 use Rattle.record.specs.declared.Field.{Field}
 use Rattle.record.specs.declared.Field.the-variants.{Weight, Threshold, Truncation, Samples}
 use Rattle.settings.specs.declared.Settings.{Settings}
-use Rattle.settings.specs.Settings.{weightInRange, thresholdInRange, truncationInRange, samplesInRange, inRange}
+use Rattle.settings.specs.Settings.{weightInRange, maxSamples, weightsInRange, thresholdInRange, truncationInRange, samplesInRange, inRange}
 use Rattle.record.specs.Record.{stands, mapOf, fieldCount, fieldOf, numberOf, weightOf}
 use Rattle.update.specs.Update.{checkOf, fieldCheck, updateChecks, withField, withBit, withBits, resulting, updateOf}
-use Rattle.settings.proofs.Parts.{InRange, in-range-parts, in-range-whole}
 
 size-in-range : (m : ℕ) → m < 16 → weightInRange (negℤ (pos m)) ≡ true
 size-in-range zero h = refl
@@ -31,56 +32,50 @@ unfolding weightOf
 weight-in-range b =
     cases (stands b 4) (λ e. rw e (size-in-range (b % 16) (omega arith))) (λ e. rw e (le-leb (b % 16) 15 (omega arith)))
 
-module _ (s : Settings) (p : InRange s) (v : ℕ) where
-  field-kept : (f : Field) → checkOf f v ≡ Taken → InRange (withField f v s)
-  field-kept (Weight i) e = record {
-    nine = length-set (s .weights) i (weightOf v) ∙ p .nine;
-    weights = every-set weightInRange (s .weights) i (weightOf v) (pos 0) (weight-in-range v) (p .weights);
-    threshold = p .threshold;
-    truncation-low = p .truncation-low;
-    truncation-high = p .truncation-high;
-    samples-low = p .samples-low;
-    samples-high = p .samples-high;
-  }
-  field-kept Threshold e = record {
-    nine = p .nine;
-    weights = p .weights;
-    threshold = leb-true _ _ (not-false (thresholdInRange v) (when-taken _ _ e));
-    truncation-low = p .truncation-low;
-    truncation-high = p .truncation-high;
-    samples-low = p .samples-low;
-    samples-high = p .samples-high;
-  }
-  field-kept Truncation e =
-      let q = and-true _ _ (not-false (truncationInRange v) (when-taken _ _ e)) in
-      record {
-        nine = p .nine;
-        weights = p .weights;
-        threshold = p .threshold;
-        truncation-low = leb-true _ _ (q .0);
-        truncation-high = leb-true _ _ (q .1);
-        samples-low = p .samples-low;
-        samples-high = p .samples-high;
-      }
-  field-kept Samples e =
-      let q = and-true _ _ (not-false (samplesInRange v) (when-taken _ _ e)) in
-      record {
-        nine = p .nine;
-        weights = p .weights;
-        threshold = p .threshold;
-        truncation-low = p .truncation-low;
-        truncation-high = p .truncation-high;
-        samples-low = leb-true _ _ (q .0);
-        samples-high = leb-true _ _ (q .1);
-      }
+-- each field in the range that its check asks for
+record Fields (s : Settings) : Type 0 where
+  pub weights : weightsInRange (s .weights) ≡ true
+  pub threshold : thresholdInRange (s .threshold) ≡ true
+  pub truncation : truncationInRange (s .truncation) ≡ true
+  pub samples : samplesInRange (s .samples) ≡ true
 
-bit-kept : (bytes : List ℕ) (bit : ℕ) (s : Settings) → InRange s → fieldCheck bytes bit ≡ Taken → InRange (withBit bytes bit s)
+fields-of : (s : Settings) → inRange s ≡ true → Fields s
+unfolding inRange
+fields-of s e =
+    let a = and-true _ _ e in
+    let b = and-true _ _ (a .0) in
+    let c = and-true _ _ (b .0) in
+    record { weights = c .0; threshold = c .1; truncation = b .1; samples = a .1 }
+
+of-fields : (s : Settings) → Fields s → inRange s ≡ true
+unfolding inRange
+of-fields s p = rw (p .weights, p .threshold, p .truncation, p .samples)
+
+-- one weight written
+weights-kept : (ws : List ℤ) (i b : ℕ) → weightsInRange ws ≡ true → weightsInRange (set ws i (weightOf b)) ≡ true
+weights-kept ws i b e =
+    let h = and-true (eqb (length ws) maxSamples) (every weightInRange ws) e in
+    rw (
+      length-set ws i (weightOf b),
+      h .0,
+      every-all weightInRange (set ws i (weightOf b)) (pos 0)
+          (λ k l. every-set weightInRange ws i (weightOf b) (pos 0) (weight-in-range b) (every-each weightInRange ws (h .1) (pos 0) refl) k),
+    )
+
+module _ (s : Settings) (p : Fields s) (v : ℕ) where
+  field-kept : (f : Field) → checkOf f v ≡ Taken → Fields (withField f v s)
+  field-kept (Weight i) e = record { weights = weights-kept (s .weights) i v (p .weights); threshold = p .threshold; truncation = p .truncation; samples = p .samples }
+  field-kept Threshold e = record { weights = p .weights; threshold = not-false _ (when-taken _ _ e); truncation = p .truncation; samples = p .samples }
+  field-kept Truncation e = record { weights = p .weights; threshold = p .threshold; truncation = not-false _ (when-taken _ _ e); samples = p .samples }
+  field-kept Samples e = record { weights = p .weights; threshold = p .threshold; truncation = p .truncation; samples = not-false _ (when-taken _ _ e) }
+
+bit-kept : (bytes : List ℕ) (bit : ℕ) (s : Settings) → Fields s → fieldCheck bytes bit ≡ Taken → Fields (withBit bytes bit s)
 bit-kept bytes bit s p e =
     cases (stands (mapOf bytes) bit)
     (λ t. rw t (field-kept s p (numberOf bytes bit) (fieldOf bit) (rw t at e)))
     (λ t. rw t p)
 
-fields-kept : (bytes : List ℕ) (n : ℕ) (s : Settings) → InRange s → verdict (each (fieldCheck bytes) n) ≡ Taken → InRange (withBits bytes n s)
+fields-kept : (bytes : List ℕ) (n : ℕ) (s : Settings) → Fields s → verdict (each (fieldCheck bytes) n) ≡ Taken → Fields (withBits bytes n s)
 unfolding withBits
 fields-kept bytes zero s p e = p
 fields-kept bytes (suc n) s p e =
@@ -91,11 +86,8 @@ pub stays-in-range : (s : Settings) (bytes : List ℕ) → inRange s ≡ true �
 unfolding updateOf
 stays-in-range s bytes e =
     by (verdict (updateChecks bytes))
-    (λ t. fields-kept bytes fieldCount s p (verdict-rest _ _ (verdict-rest _ _ (verdict-rest _ _ t))))
+    (λ t. fields-kept bytes fieldCount s (fields-of s e) (verdict-rest _ _ (verdict-rest _ _ (verdict-rest _ _ t))))
   where
-    p : InRange s
-    p = in-range-parts s e
-
-    by : (a : Answer) → (a ≡ Taken → InRange (resulting bytes s)) → inRange (byAnswer a (resulting bytes s) s) ≡ true
-    by Taken h = in-range-whole (resulting bytes s) (h refl)
+    by : (a : Answer) → (a ≡ Taken → Fields (resulting bytes s)) → inRange (byAnswer a (resulting bytes s) s) ≡ true
+    by Taken h = of-fields (resulting bytes s) (h refl)
     by (Refused r) h = e
