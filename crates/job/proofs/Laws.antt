@@ -12,7 +12,7 @@ use Rattle.laws.proofs.Parts.{part-at}
 use Rattle.checks.specs.Checks.{byAnswer}
 use Rattle.frame.specs.Chain.{started, frameAnswer, frameWords}
 use Rattle.job.specs.declared.Job.{Job}
-use Rattle.settings.proofs.Overlong.{longest}
+use Rattle.update.proofs.Overlong.{longest}
 use Rattle.job.specs.Input.{widthOf, heightOf, binnedByte, isBinned, recordLength, recordOf, readingsAt, pairs, maxReadings, capacity}
 use Rattle.job.specs.Job.{inputChecks, zeroSums, zeroWords, jobAnswer, jobWords, truncationOf, Result}
 use Rattle.job.specs.Laws.{JobLaws}
