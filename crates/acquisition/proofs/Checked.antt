@@ -23,7 +23,7 @@ use Rattle.checks.proofs.Search.{found-none, found-every}
 use Rattle.entries.specs.Possible.{readingInRange, possible}
 use Rattle.entries.specs.Range.{entryInRange}
 use Rattle.entries.proofs.Range.{possible-in-range}
-use Rattle.ramp.specs.Written.{notPossibleAt}
+use Rattle.written.specs.Written.{notPossibleAt}
 use Rattle.ramp.specs.Requires.{Feedable}
 use Rattle.words.specs.Frame.{wordCount}
 use Rattle.words.specs.Requires.{Readable}

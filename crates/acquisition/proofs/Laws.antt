@@ -12,7 +12,7 @@ use Rattle.checks.specs.declared.Answer.the-variants.{Taken}
 use Rattle.checks.specs.Checks.{verdict}
 use Rattle.entries.specs.Possible.{possible}
 use Rattle.ramp.specs.Feed.{feedAll}
-use Rattle.ramp.proofs.Intervals.{written-none}
+use Rattle.written.proofs.Intervals.{written-none}
 use Rattle.board.specs.declared.Board.{Board}
 use Rattle.board.specs.Board.{sound, extended, ended}
 use Rattle.board.specs.Ramp.{rampChecks}

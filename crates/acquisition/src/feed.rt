@@ -11,7 +11,7 @@ use board::Board;
 use board::Outcome;
 use checks::Answer;
 use entries::first_above;
-use ramp::written::first_not_possible;
+use written::first_not_possible;
 
 // 12, 13 and 14 of Feed.
 fn check_readings(board: Board, readings: &[u16], sums: &[i32]) -> Answer
@@ -60,7 +60,7 @@ pub fn feed(board: Board, readings: &[u16], sums: &mut [i32]) -> Outcome
     match answer {
         Answer::Taken => {
             let settings = board.in_force;
-            ramp::pass::feed(readings, sums, board.fed, settings);
+            ramp::feed(readings, sums, board.fed, settings);
             Outcome {
                 answer: answer,
                 board: extended(board, readings.len()),

@@ -16,7 +16,7 @@ use Rattle.checks.specs.declared.Answer.the-variants.{Taken}
 use Rattle.checks.specs.Checks.{first, verdict}
 use Rattle.checks.proofs.Laws.{both-taken}
 use Rattle.entries.specs.Possible.{readingInRange}
-use Rattle.ramp.specs.Step.{step}
+use Rattle.step.specs.Step.{step}
 use Rattle.ramp.specs.Feed.{feedAll}
 use Rattle.ramp.proofs.Feeding.{feed-length, feed-append}
 use Rattle.ramp.proofs.Agrees.{agrees-none}

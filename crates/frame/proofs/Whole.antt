@@ -19,7 +19,7 @@ use Rattle.checks.specs.Checks.{when, first, verdict, byAnswer}
 use Rattle.checks.proofs.Laws.{first-taken, verdict-append, both-taken}
 use Rattle.checks.proofs.Search.{found-every}
 use Rattle.entries.specs.Possible.{possible}
-use Rattle.ramp.specs.Step.{step}
+use Rattle.step.specs.Step.{step}
 use Rattle.ramp.specs.Feed.{sumsAfter}
 use Rattle.ramp.specs.Requires.{Feedable}
 use Rattle.ramp.proofs.Feeding.{feed-length}

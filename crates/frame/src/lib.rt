@@ -9,7 +9,7 @@ use acquisition::feed::check_feed;
 use acquisition::read_out::word_count;
 use board::Board;
 use checks::Answer;
-use ramp::pass::feed;
+use ramp::feed;
 use words::frame::write_frame;
 
 mod begin;

@@ -22,14 +22,14 @@ use Rattle.settings.specs.declared.Settings.{Settings}
 use Rattle.settings.specs.Settings.{truncationInRange}
 use Rattle.settings.specs.Covered.{isCovered, ceiling}
 use Rattle.settings.proofs.Parts.{InRange}
-use Rattle.ramp.specs.Step.{overIt}
+use Rattle.step.specs.Step.{overIt}
 use Rattle.ramp.specs.Exact.{exactSum, entryAfter}
 use Rattle.ramp.proofs.Bounds.{cover-holds}
 use Rattle.ramp.proofs.Pixel.{entry-sample}
-use Rattle.words.specs.declared.WordRead.{WordRead}
-use Rattle.words.specs.declared.WordRead.the-variants.{Saturated, Negative}
+use Rattle.meaning.specs.declared.WordRead.{WordRead}
+use Rattle.meaning.specs.declared.WordRead.the-variants.{Saturated, Negative}
 use Rattle.words.specs.Word.{smallestMark, isNegative, wordBy, wordOf}
-use Rattle.words.specs.Reading.{readWord}
+use Rattle.meaning.specs.Meaning.{readWord}
 use Rattle.words.specs.Laws.{Between}
 use Rattle.words.proofs.Firsts.{first-or}
 use Rattle.words.proofs.Laws.{laws}

@@ -4,10 +4,10 @@ use Rattle.laws.specs.Lists.{total}
 use Rattle.laws.specs.Numbers.{sumTo}
 use Rattle.settings.specs.Covered.{positives, isCovered}
 use Rattle.entries.specs.Mark.{sampleOf}
-use Rattle.ramp.specs.Step.{step}
+use Rattle.step.specs.Step.{step}
 use Rattle.ramp.specs.Feed.{feedOne, feedAll}
 use Rattle.words.specs.Word.{smallestMark, isNegative}
-use Rattle.words.specs.Reading.{meaning, readWord}
+use Rattle.meaning.specs.Meaning.{meaning, readWord}
 use Rattle.history.specs.Known.{AllKnown}
 
 infixr 10 _then_

@@ -19,7 +19,7 @@ use Rattle.checks.specs.declared.Answer.the-variants.{Taken}
 use Rattle.settings.specs.declared.Settings.{Settings}
 use Rattle.entries.specs.Possible.{readingInRange, possible}
 use Rattle.entries.proofs.Range.{possible-in-range, range}
-use Rattle.ramp.specs.Step.{step}
+use Rattle.step.specs.Step.{step}
 use Rattle.ramp.proofs.Feeding.{feed-length, feed-past}
 use Rattle.ramp.proofs.Honest.{all-pass}
 use Rattle.board.specs.Board.{wanted}

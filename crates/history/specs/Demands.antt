@@ -18,11 +18,11 @@ use Rattle.checks.specs.Checks.{byAnswer}
 use Rattle.entries.specs.Possible.{readingInRange}
 use Rattle.ramp.specs.Feed.{sumsAfter}
 use Rattle.ramp.specs.Exact.{exactSum}
-use Rattle.words.specs.declared.WordRead.{WordRead}
-use Rattle.words.specs.declared.WordRead.the-variants.{Saturated, Negative}
+use Rattle.meaning.specs.declared.WordRead.{WordRead}
+use Rattle.meaning.specs.declared.WordRead.the-variants.{Saturated, Negative}
 use Rattle.words.specs.Word.{isNegative}
 use Rattle.words.specs.Frame.{frameOf}
-use Rattle.words.specs.Reading.{readWord}
+use Rattle.meaning.specs.Meaning.{readWord}
 use Rattle.words.specs.Laws.{Between}
 use Rattle.board.specs.declared.Board.{Board}
 use Rattle.board.specs.declared.Coverage.the-variants.{Covered}

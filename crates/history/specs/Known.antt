@@ -11,10 +11,10 @@ use Rattle.settings.specs.Covered.{isCovered}
 use Rattle.entries.specs.Mark.{mark}
 use Rattle.ramp.specs.Feed.{sumsAfter}
 use Rattle.ramp.specs.Exact.{readingOf, exactSum}
-use Rattle.words.specs.declared.WordRead.{WordRead}
-use Rattle.words.specs.declared.WordRead.the-variants.{Ordinary, Saturated, Negative}
+use Rattle.meaning.specs.declared.WordRead.{WordRead}
+use Rattle.meaning.specs.declared.WordRead.the-variants.{Ordinary, Saturated, Negative}
 use Rattle.words.specs.Word.{wordOf}
-use Rattle.words.specs.Reading.{limit, readWord}
+use Rattle.meaning.specs.Meaning.{limit, readWord}
 
 -- Of one pixel's ramp: the settings and the readings; the exact sum, the entry that they leave, its word and what that reads as; and whether the settings are
 -- covered. Of a square: its four entries, its word at the default r, and what that reads as.

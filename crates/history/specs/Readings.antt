@@ -5,7 +5,7 @@ use mathlib.Core.List.{List, map}
 use lib.IntN.{ℤ}
 use Rattle.laws.specs.Lists.{each, anyOf}
 use Rattle.laws.specs.Numbers.{First, firstOf}
-use Rattle.ramp.specs.Step.{overIt}
+use Rattle.step.specs.Step.{overIt}
 use Rattle.ramp.specs.Exact.{readingOf, exactSum}
 use Rattle.words.specs.Word.{wordBy}
 use Rattle.words.specs.Frame.{pixelsOf, wordCount}

@@ -7,10 +7,10 @@ ghost use Rattle.job.specs.Input.{capacity};
 use checks::Answer;
 use job::Job;
 use libc::STDIN_FILENO;
+use meaning::read_word;
 use print::meaning;
 use print::number;
 use print::text;
-use words::reading::read_word;
 
 fn line(row: usize, column: usize, word: u16, truncation: u16) {
     number(row as u64);

@@ -15,7 +15,7 @@ use crate::bytes::decode;
 use board::Board;
 use checks::Answer;
 use frame::frame_of;
-use ramp::numbers::least;
+use numbers::least;
 use record::byte;
 use record::pair;
 

@@ -1,7 +1,7 @@
 // Text on standard output: bytes, numbers, answers and what a word means.
 use checks::Refusal;
 use libc::STDOUT_FILENO;
-use words::WordRead;
+use meaning::WordRead;
 
 pub fn text(bytes: &[u8]) {
     io::write_all(STDOUT_FILENO, bytes);

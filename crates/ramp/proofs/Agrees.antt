@@ -20,10 +20,11 @@ use Rattle.laws.proofs.Every.{every-each}
 use Rattle.settings.specs.declared.Settings.{Settings}
 use Rattle.settings.proofs.Parts.{InRange}
 use Rattle.entries.specs.Possible.{readingInRange, possible}
-use Rattle.ramp.specs.Step.{step}
-use Rattle.ramp.specs.Feed.{feedOne, feedAll, samplesWritten}
+use Rattle.step.specs.Step.{step}
+use Rattle.written.specs.Written.{samplesWritten}
+use Rattle.ramp.specs.Feed.{feedOne, feedAll}
 use Rattle.ramp.specs.Exact.{readingOf, entryAfter}
-use Rattle.ramp.proofs.Places.{same-sample, place, next}
+use Rattle.written.proofs.Places.{same-sample, place, next}
 use Rattle.ramp.proofs.Feeding.{one-length}
 use Rattle.ramp.proofs.Pixel.{entry-step, entry-same, entry-possible}
 

@@ -21,9 +21,9 @@ use Rattle.settings.specs.declared.Settings.{Settings}
 use Rattle.settings.specs.Settings.{maxThreshold, weightInRange, weightAt}
 use Rattle.settings.specs.Covered.{positivePart, positives, reach, ceiling, isCovered}
 use Rattle.settings.proofs.Parts.{InRange}
-use Rattle.ramp.specs.Step.{overIt}
+use Rattle.step.specs.Step.{overIt}
 use Rattle.ramp.specs.Exact.{exactSum}
-use Rattle.ramp.proofs.Steps.{weight-in-range}
+use Rattle.step.proofs.Steps.{weight-in-range}
 
 -- weight n × reading n
 abbrev pub part : Settings → (ℕ → ℕ) → ℕ → ℤ

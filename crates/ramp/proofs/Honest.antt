@@ -20,9 +20,9 @@ use Rattle.checks.specs.declared.Found.the-variants.{Nothing}
 use Rattle.checks.specs.Search.{firstPlace}
 use Rattle.checks.proofs.Search.{nowhere}
 use Rattle.entries.specs.Possible.{readingInRange, possible}
-use Rattle.ramp.specs.Feed.{samplesWritten}
-use Rattle.ramp.specs.Written.{notPossibleAt}
-use Rattle.ramp.proofs.Places.{same-sample, next}
+use Rattle.written.specs.Written.{samplesWritten}
+use Rattle.written.specs.Written.{notPossibleAt}
+use Rattle.written.proofs.Places.{same-sample, next}
 use Rattle.ramp.proofs.Agrees.{Agrees, undamaged}
 
 -- where the first of three holds only if the third does

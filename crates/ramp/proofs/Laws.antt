@@ -8,16 +8,14 @@ use Rattle.laws.proofs.Tests.{cases}
 use Rattle.laws.proofs.Ints.{signed}
 use Rattle.settings.specs.Covered.{isCovered}
 use Rattle.settings.proofs.Parts.{in-range-parts}
-use Rattle.ramp.specs.Step.{step}
+use Rattle.step.specs.Step.{step}
 use Rattle.ramp.specs.Laws.{RampLaws}
-use Rattle.ramp.proofs.Steps.{possible-step}
 use Rattle.ramp.proofs.Feeding.{feed-length, feed-append}
 use Rattle.ramp.proofs.Bounds.{cover-holds, cover-breaks, at-most, worst, worst-le}
 use Rattle.ramp.proofs.Agrees.{agrees-none, agrees-all}
 
 pub laws : RampLaws
 laws = record {
-  stays-possible = λ s e. possible-step s (in-range-parts s e);
   in-two = λ s f xs ys sums. rw (feed-length (pos 0) (step s) (length sums) xs f sums) (feed-append (pos 0) (step s) (length sums) xs ys f sums);
   entry-is = λ s e xs sums p k h few.
       let r = in-range-parts s e in

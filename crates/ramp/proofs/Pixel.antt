@@ -18,9 +18,9 @@ use Rattle.settings.proofs.Parts.{InRange}
 use Rattle.entries.specs.Mark.{mark, marked, sampleOf}
 use Rattle.entries.specs.Possible.{readingInRange, possible}
 use Rattle.entries.proofs.Marks.{is-marked, sample-is, sample-none}
-use Rattle.ramp.specs.Step.{overIt, stepFrom, step}
+use Rattle.step.specs.Step.{overIt, stepFrom, step}
 use Rattle.ramp.specs.Exact.{exactSum, firstOver, markedBy, entryAfter}
-use Rattle.ramp.proofs.Steps.{possible-step}
+use Rattle.step.proofs.Steps.{possible-step}
 use Rattle.ramp.proofs.Bounds.{part, below-marks}
 
 module _ (s : Settings) (r : InRange s) (x : ℕ → ℕ) where

@@ -1,5 +1,4 @@
 -- Feeding keeps the sums ready, for any kind of entry: where a step of sample k + 1 takes an entry that passes for k to one that passes for k + 1.
---     Ready                    each entry that was written, and for which a reading comes, passes the test for its k
 --     ready-one, ready-all     `Ready` before a reading, or several, gives `Ready` after it
 use Prim.Native.Nat.{ℕ, suc, _+_, _*_, _/_, _%_, _≤_, _<_}
 use mathlib.Core.Bool.{Bool, true}
@@ -16,13 +15,9 @@ use Rattle.laws.specs.Lists.{every}
 use Rattle.laws.proofs.Tests.{and-true}
 use Rattle.entries.specs.Possible.{readingInRange}
 use Rattle.ramp.specs.Feed.{feedOne, feedAll}
-use Rattle.ramp.proofs.Places.{same-sample, place, few}
+use Rattle.written.proofs.Intervals.{Ready}
+use Rattle.written.proofs.Places.{same-sample, place, few}
 use Rattle.ramp.proofs.Feeding.{one-length}
-
--- The next reading of a pixel p that has had k samples is number k × m + p. A count of readings comes, from number f on.
-unfoldable pub Ready : {E : Type 0} → E → (ℕ → E → Bool) → ℕ → ℕ → ℕ → List E → Type 0
-Ready absent test m f count sums =
-    (p k : ℕ) → p < m → f ≤ k * m + p → k * m + p < f + m → k * m + p < f + count → 0 < k → test k (getD sums p absent) ≡ true
 
 module _ {E : Type 0} (absent : E) (step : ℕ → E → ℕ → E) (test : ℕ → E → Bool) (m : ℕ) (some : 0 < m)
     (keeps : (k : ℕ) (e : E) (x : ℕ) → k ≤ 8 → readingInRange x ≡ true → (0 < k → test k e ≡ true) → test (suc k) (step (suc k) e x) ≡ true) where

@@ -15,14 +15,15 @@ use Rattle.settings.proofs.Parts.{in-range-parts}
 use Rattle.entries.specs.Possible.{readingInRange, possible}
 use Rattle.entries.specs.Range.{entryInRange}
 use Rattle.entries.proofs.Range.{possible-in-range}
-use Rattle.ramp.specs.Step.{step}
+use Rattle.step.specs.Step.{step}
 use Rattle.ramp.specs.Feed.{feedAll}
 use Rattle.ramp.specs.Requires.{Feedable}
-use Rattle.ramp.proofs.Steps.{possible-step}
-use Rattle.ramp.proofs.Places.{place}
+use Rattle.step.proofs.Steps.{possible-step}
+use Rattle.written.proofs.Places.{place}
 use Rattle.ramp.proofs.Feeding.{feed-length, feed-append, feed-part}
-use Rattle.ramp.proofs.Ready.{Ready, ready-all}
-use Rattle.ramp.proofs.Intervals.{written-ready}
+use Rattle.written.proofs.Intervals.{Ready}
+use Rattle.ramp.proofs.Ready.{ready-all}
+use Rattle.written.proofs.Intervals.{written-ready}
 
 module _ (s : Settings) (f : ℕ) (xs : List ℕ) (ss : List ℤ) (h : Feedable s f xs ss) (i k : ℕ) (hk : i + k ≤ length xs) (hp : (f + i) % length ss + k ≤ length ss) where
   abbrev m : ℕ

@@ -9,7 +9,7 @@ use Rattle.settings.specs.declared.Settings.{Settings}
 use Rattle.settings.specs.Settings.{weightAt}
 use Rattle.settings.specs.Covered.{pedestal}
 use Rattle.entries.specs.Mark.{mark}
-use Rattle.ramp.specs.Step.{overIt}
+use Rattle.step.specs.Step.{overIt}
 
 -- the reading of pixel p at sample n is number (n − 1) × m + p, pixels and numbers counted from 0
 abbrev pub readingOf : ℕ → List ℕ → ℕ → ℕ → ℕ

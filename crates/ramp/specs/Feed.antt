@@ -1,12 +1,10 @@
 -- Feed, one reading at a time. The definitions hold for any kind of entry and any step.
-use Prim.Native.Nat.{ℕ, suc, _+_, _/_, _%_}
-use mathlib.Core.Bool.{cond}
+use Prim.Native.Nat.{ℕ, suc, _/_, _%_}
 use mathlib.Core.List.{List, [], _∷_}
-use lib.Dec.{ltb}
 use lib.IntN.{ℤ, pos}
 use lib.ListN.{length, getD, set}
 use Rattle.settings.specs.declared.Settings.{Settings}
-use Rattle.ramp.specs.Step.{step}
+use Rattle.step.specs.Step.{step}
 
 -- the array comes whole, row by row, for each sample: reading number f (from 0) of a ramp on m pixels is that of pixel f mod m at sample f div m + 1
 unfoldable pub feedOne : {E : Type 0} → E → (ℕ → E → ℕ → E) → ℕ → ℕ → ℕ → List E → List E
@@ -20,7 +18,3 @@ feedAll absent step m f (x ∷ xs) sums = feedAll absent step m (suc f) xs (feed
 -- the sums, one for each pixel, after the readings from number f on
 abbrev pub sumsAfter : Settings → ℕ → List ℕ → List ℤ → List ℤ
 sumsAfter s f readings sums = feedAll (pos 0) (step s) (length sums) f readings sums
-
--- how many samples of pixel p are among the first f readings
-abbrev pub samplesWritten : ℕ → ℕ → ℕ → ℕ
-samplesWritten m f p = f / m + cond (ltb p (f % m)) 1 0

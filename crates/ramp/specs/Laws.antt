@@ -10,15 +10,10 @@ use lib.Signed.{_≤ℤ_}
 use Rattle.settings.specs.declared.Settings.{Settings}
 use Rattle.settings.specs.Settings.{inRange}
 use Rattle.settings.specs.Covered.{ceiling, isCovered}
-use Rattle.entries.specs.Possible.{readingInRange, possible}
-use Rattle.ramp.specs.Step.{step}
 use Rattle.ramp.specs.Feed.{sumsAfter}
 use Rattle.ramp.specs.Exact.{readingOf, exactSum, entryAfter}
 
 pub record RampLaws : Type 0 where
-  -- a step takes an entry that is possible for k to one that is possible for k + 1; sample 1 takes any entry to one that is possible for 1
-  pub stays-possible : (s : Settings) → inRange s ≡ true → (k : ℕ) (e : ℤ) (x : ℕ) → k ≤ 8 → readingInRange x ≡ true
-      → (0 < k → possible s k e ≡ true) → possible s (suc k) (step s (suc k) e x) ≡ true
   -- some readings, and then some more
   pub in-two : (s : Settings) (f : ℕ) (xs ys : List ℕ) (sums : List ℤ) → sumsAfter s f (xs ++ ys) sums ≡ sumsAfter s (f + length xs) ys (sumsAfter s f xs sums)
   -- a pixel that has had k samples of a ramp, and no more, holds the mark of its first sample over the threshold, or else its exact sum; whatever stood there before

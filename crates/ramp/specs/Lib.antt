@@ -1,7 +1,5 @@
--- The sum of a ramp: a reading's step, Feed as the fold of it, check 14, and what a pixel's readings come to.
-pub mod Step
+-- The sum of a ramp: Feed as the fold of a reading's step, and what a pixel's readings come to.
 pub mod Feed
-pub mod Written
 pub mod Exact
 pub mod Requires
 pub mod Laws

@@ -11,7 +11,7 @@ use Rattle.settings.specs.Settings.{maxSamples, inRange}
 use Rattle.checks.specs.declared.Found.the-variants.{Nothing}
 use Rattle.checks.specs.Search.{firstPlace}
 use Rattle.entries.specs.Possible.{readingInRange, possible}
-use Rattle.ramp.specs.Written.{notPossibleAt}
+use Rattle.written.specs.Written.{notPossibleAt}
 
 pub record Feedable (s : Settings) (f : ℕ) (xs : List ℕ) (sums : List ℤ) : Type 0 where
   pub some : 0 < length sums

@@ -15,9 +15,9 @@ use acquisition::read_out::read_out;
 use board::Board;
 use board::Outcome;
 use checks::Answer;
+use meaning::read_word;
 use print::meaning;
 use print::text;
-use words::reading::read_word;
 
 pub(crate) struct Player {
     board: Board,

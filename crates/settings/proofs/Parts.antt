@@ -1,14 +1,15 @@
--- What `inRange` says of each setting, and back.
+-- What `inRange` says of each setting, and back; and what the range of r says alone.
 use Prim.Native.Nat.{ℕ, _≤_}
 use mathlib.Core.Bool.{true}
 use mathlib.Core.Path.{_≡_, refl}
 use borrow.Author.Tests.{leb-true, le-leb, eqb-true, eq-eqb}
+use lib.Dec.{leb}
 use lib.IntN.{pos}
 use lib.ListN.{length, getD}
 use Rattle.laws.proofs.Tests.{and-true}
 use Rattle.laws.proofs.Every.{every-all, every-each}
 use Rattle.settings.specs.declared.Settings.{Settings}
-use Rattle.settings.specs.Settings.{weightInRange, maxThreshold, maxSamples, inRange}
+use Rattle.settings.specs.Settings.{weightInRange, maxThreshold, truncationInRange, maxSamples, inRange}
 
 pub record InRange (s : Settings) : Type 0 where
   pub nine : length (s .weights) ≡ 9
@@ -50,3 +51,6 @@ in-range-whole s p =
       le-leb _ _ (p .samples-low),
       le-leb _ _ (p .samples-high),
     )
+
+pub truncation-parts : (r : ℕ) → truncationInRange r ≡ true → (1 ≤ r) × (r ≤ 3)
+truncation-parts r e = let t = and-true (leb 1 r) (leb r 3) e in (leb-true 1 r (t .0), leb-true r 3 (t .1))

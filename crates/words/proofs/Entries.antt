@@ -2,7 +2,7 @@
 --     apart, sample-range                a mark's sample, as the code takes it
 --     ahead, ahead-le, ahead-none, ahead-smaller     how far a sample comes before 15
 --     few, few-smaller                   a sample is at most 9
-use Prim.Native.Nat.{ℕ, _+_, _-_, _≤_, max}
+use Prim.Native.Nat.{ℕ, _-_, _≤_, max}
 use mathlib.Core.Bool.{true}
 use mathlib.Core.Option.{Option, none, some}
 use mathlib.Core.Path.{_≡_, sym, ap, _∙_}

@@ -1,5 +1,4 @@
 -- A word, from a sample or a total.
---     in-range                   an r in range is 1 to 3
 --     kept                       a sample is left as it is by the mask
 --     cutWord, cut-lt            the word of a total
 --     pixel, square              what the code computes is the word
@@ -10,9 +9,9 @@ use mathlib.Core.Option.{Option, none, some}
 use mathlib.Core.Path.{_≡_, refl, _∙_}
 use native.Mathlib.Nat.{mod-eq-of-lt, one-mul, mul-comm, max-zero}
 use native.Mathlib.Omega.{arith}
-use borrow.Author.Tests.{leb-true, lt-ltb}
+use borrow.Author.Tests.{lt-ltb}
 use lib.Bits.{bitAnd, and-mask}
-use lib.Dec.{leb, ltb}
+use lib.Dec.{ltb}
 use lib.IntN.{ℤ, pos, negsuc, _+ℤ_, _-ℤ_, natAbs, +ℤ-idr, +ℤ-assoc}
 use lib.ListN.{length}
 use lib.Pow.{pow-add}
@@ -21,16 +20,11 @@ use Rattle.laws.specs.Lists.{total}
 use Rattle.laws.proofs.Ints.{signed}
 use Rattle.laws.proofs.Numbers.{max-assoc, less}
 use Rattle.laws.proofs.Parts.{All}
-use Rattle.laws.proofs.Tests.{and-true}
-use Rattle.settings.specs.Settings.{truncationInRange}
 use Rattle.entries.specs.Mark.{marked, sampleOf}
 use Rattle.entries.proofs.Marks.{is-marked, sample-is, sample-none, by-mark}
 use Rattle.words.specs.Word.{smallestMark, isNegative, cutBy, wordBy, wordOf}
 use Rattle.entries.specs.Range.{entryInRange}
 use Rattle.words.proofs.Entries.{ahead, ahead-smaller, Few, few, few-smaller}
-
-pub in-range : (r : ℕ) → truncationInRange r ≡ true → (1 ≤ r) × (r ≤ 3)
-in-range r e = let t = and-true (leb 1 r) (leb r 3) e in (leb-true 1 r (t .0), leb-true r 3 (t .1))
 
 -- a sample
 pub kept : (z : ℤ) → (pos 0 ≤ℤ z) × (z ≤ℤ pos 15) → (bitAnd (natAbs z) 15 ≡ natAbs z) × (natAbs z ≤ 15)

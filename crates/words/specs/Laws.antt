@@ -1,5 +1,5 @@
 -- What the word of entries reads as. `proofs/Laws.antt` shows it.
-use Prim.Native.Nat.{ℕ, _+_, _*_, _^_, _≤_, _<_}
+use Prim.Native.Nat.{ℕ, _*_, _^_, _≤_, _<_}
 use mathlib.Core.Bool.{true, false}
 use mathlib.Core.List.{List}
 use mathlib.Core.Option.{none, some}
@@ -12,10 +12,10 @@ use lib.Signed.{_≤ℤ_, _<ℤ_}
 use Rattle.laws.specs.Lists.{total}
 use Rattle.settings.specs.Settings.{truncationInRange}
 use Rattle.settings.specs.Covered.{ceiling}
-use Rattle.words.specs.declared.WordRead.{WordRead}
-use Rattle.words.specs.declared.WordRead.the-variants.{Ordinary, Saturated, Negative}
+use Rattle.meaning.specs.declared.WordRead.{WordRead}
+use Rattle.meaning.specs.declared.WordRead.the-variants.{Ordinary, Saturated, Negative}
 use Rattle.words.specs.Word.{smallestMark, isNegative, wordOf}
-use Rattle.words.specs.Reading.{limit, readWord}
+use Rattle.meaning.specs.Meaning.{readWord}
 
 -- a word that reads as ordinary: its two limits are 64-bit floats, exactly the whole numbers lo and hi, and the sum of its pixels lies from lo up to but not
 -- including hi, counted once for each pixel
@@ -31,11 +31,6 @@ pub record Between (pixels : ℕ) (sum : ℤ) (reads : WordRead) : Type 0 where
   pub below : sum <ℤ pos (pixels * hi)
 
 pub record WordLaws : Type 0 where
-  -- a word below 32,752 reads as ordinary, with the limits w × 2^r and (w + 1) × 2^r, both exact
-  pub limits-exact : (r w : ℕ) → truncationInRange r ≡ true → w < 32752
-      → let lo = w * 2 ^ r in
-      let hi = (w + 1) * 2 ^ r in
-      (readWord r w ≡ Ordinary (limit lo) (limit hi)) × HasValue (limit lo) false lo 1 × HasValue (limit hi) false hi 1
   -- the word of one entry, or of a square's four. No mark, no negative sum, and a total below 32,752 × 2^r for each pixel: ordinary, with the total between the limits
   pub ordinary : (r : ℕ) (entries : List ℤ) → truncationInRange r ≡ true → 0 < length entries
       → smallestMark entries ≡ none → isNegative entries ≡ false → total entries <ℤ pos (length entries * ceiling r)

@@ -1,6 +1,5 @@
--- The words of a frame, and what a word means.
+-- The words of a frame.
 pub mod Word
 pub mod Frame
-pub mod Reading
 pub mod Requires
 pub mod Laws

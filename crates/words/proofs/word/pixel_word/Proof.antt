@@ -4,7 +4,8 @@ use Prim.Native.Nat.{_^_}
 use native.Mathlib.Omega.{arith}
 use mir.Facts.{toZ-ofZ}
 use Rattle.words.proofs.Entries.{apart, sample-range}
-use Rattle.words.proofs.Words.{in-range, cut-lt, pixel}
+use Rattle.settings.proofs.Parts.{truncation-parts}
+use Rattle.words.proofs.Words.{cut-lt, pixel}
 use Rattle.words.proofs.word.pixel_word.Statement.{statement}
 use Rattle.words.proofs.word.pixel_word.Tie as tie
 
@@ -12,7 +13,7 @@ sub-flagged : tie.Need-sub-flagged
 sub-flagged c = simp (toZ-ofZ, c .fits .entry) (apart _ (c .pre .0))
 
 cut-off-requires : tie.Need-cut-off-requires
-cut-off-requires c κs = omega (arith, in-range (c .args .truncation) (c .pre .1))
+cut-off-requires c κs = omega (arith, truncation-parts (c .args .truncation) (c .pre .1))
 
 flagged-requires : tie.Need-flagged-requires
 flagged-requires c κs =

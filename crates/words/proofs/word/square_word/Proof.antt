@@ -15,7 +15,8 @@ use Rattle.laws.proofs.Ints.{sum, neg-up, neg-dn, fits, signed, back}
 use Rattle.entries.specs.Mark.{sampleOf}
 use Rattle.words.proofs.Entries.{ahead, ahead-le, ahead-none}
 use Rattle.words.proofs.Turned.{depth, depth-over, depth-sample, depth-shown, Found, found, larger}
-use Rattle.words.proofs.Words.{in-range, cutWord, cut-lt, square}
+use Rattle.settings.proofs.Parts.{truncation-parts}
+use Rattle.words.proofs.Words.{cutWord, cut-lt, square}
 use Rattle.words.proofs.word.square_word.Statement.{statement}
 use Rattle.words.proofs.word.square_word.Tie as tie
 
@@ -99,10 +100,10 @@ sub-flagged : tie.Need-sub-flagged
 sub-flagged c = rw (held (c .before)) (difference (c .before))
 
 add-cut-off : tie.Need-add-cut-off
-add-cut-off c = omega (arith, in-range (s (c .before) .args .truncation) (s (c .before) .pre .1 .1))
+add-cut-off c = omega (arith, truncation-parts (s (c .before) .args .truncation) (s (c .before) .pre .1 .1))
 
 cut-off-requires : tie.Need-cut-off-requires
-cut-off-requires c κs = omega (arith, in-range (s (c .before) .args .truncation) (s (c .before) .pre .1 .1))
+cut-off-requires c κs = omega (arith, truncation-parts (s (c .before) .args .truncation) (s (c .before) .pre .1 .1))
 
 -- the total, and its word
 module _ (c : tie.After-cut-off) where

@@ -1,0 +1,54 @@
+-- The laws of reading a word.
+use Prim.Native.Nat.{ℕ, _+_, _*_, _^_, _≤_, _<_}
+use mathlib.Core.Bool.{true, false}
+use mathlib.Core.Path.{_≡_, ap, _∙_}
+use borrow.Author.Tests.{lt-ltb, le-ltb, le-leb}
+use native.Mathlib.Nat.{mul-le-mul}
+use native.Mathlib.Omega.{arith}
+use lib.Ieee.{ofInt, binary64}
+use lib.Ieee.Back.{round-whole}
+use lib.Ieee.Exact.{HasValue}
+use lib.Pow.{pow-mono}
+use Rattle.settings.specs.Settings.{truncationInRange}
+use Rattle.settings.proofs.Parts.{truncation-parts}
+use Rattle.meaning.specs.declared.WordRead.the-variants.{Ordinary, Saturated, Negative}
+use Rattle.meaning.specs.Meaning.{limit, meaning, readWord}
+use Rattle.meaning.specs.Laws.{MeaningLaws}
+
+-- a whole number up to 2^53 is its float's value
+exact : (n : ℕ) → n ≤ 9007199254740992 → HasValue (limit n) false n 1
+unfolding ofInt
+exact n h = round-whole binary64 false n h
+
+module _ (r : ℕ) (in-r : truncationInRange r ≡ true) where
+  reads : (w : ℕ) → readWord r w ≡ meaning r w
+  unfolding readWord
+  reads w = rw in-r
+
+  limits-exact : (w : ℕ) → w < 32752
+      → let lo = w * 2 ^ r in
+      let hi = (w + 1) * 2 ^ r in
+      (readWord r w ≡ Ordinary (limit lo) (limit hi)) × HasValue (limit lo) false lo 1 × HasValue (limit hi) false hi 1
+  unfolding meaning
+  limits-exact w h =
+      let b : 2 ^ r ≤ 8 = pow-mono (truncation-parts r in-r .1) in
+      let low : w * 2 ^ r ≤ 32752 * 8 = mul-le-mul {n₂ = 32752} (omega arith) b in
+      let high : (w + 1) * 2 ^ r ≤ 32752 * 8 = mul-le-mul {n₂ = 32752} (omega arith) b in
+      (reads w ∙ rw (lt-ltb w 32752 h), exact (w * 2 ^ r) (omega arith), exact ((w + 1) * 2 ^ r) (omega arith))
+
+  flag : (n : ℕ) → 1 ≤ n → n ≤ 9 → readWord r (32752 + n) ≡ Saturated n
+  unfolding meaning
+  flag n a b =
+      reads (32752 + n)
+      ∙ rw (le-ltb (32752 + n) 32752 (omega arith), le-leb 32753 (32752 + n) (omega arith), le-leb (32752 + n) 32761 (omega arith)) (ap Saturated (omega arith))
+
+  negative : readWord r 32767 ≡ Negative
+  unfolding meaning
+  negative = reads 32767
+
+pub laws : MeaningLaws
+laws = record {
+  limits-exact = λ r w t. limits-exact r t w;
+  saturated = λ r n t. flag r t n;
+  negative = negative;
+}

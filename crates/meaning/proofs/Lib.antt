@@ -1,0 +1,2 @@
+-- The laws of reading a word.
+pub mod Laws

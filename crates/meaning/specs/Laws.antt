@@ -1,0 +1,19 @@
+-- What must be true of reading a word, beside the contract. `proofs/Laws.antt` shows it.
+use Prim.Native.Nat.{ℕ, _+_, _*_, _^_, _≤_, _<_}
+use mathlib.Core.Bool.{true, false}
+use mathlib.Core.Path.{_≡_}
+use lib.Ieee.Exact.{HasValue}
+use Rattle.settings.specs.Settings.{truncationInRange}
+use Rattle.meaning.specs.declared.WordRead.the-variants.{Ordinary, Saturated, Negative}
+use Rattle.meaning.specs.Meaning.{limit, readWord}
+
+pub record MeaningLaws : Type 0 where
+  -- a word below 32,752 reads as ordinary, with the limits w × 2^r and (w + 1) × 2^r, both exact
+  pub limits-exact : (r w : ℕ) → truncationInRange r ≡ true → w < 32752
+      → let lo = w * 2 ^ r in
+      let hi = (w + 1) * 2 ^ r in
+      (readWord r w ≡ Ordinary (limit lo) (limit hi)) × HasValue (limit lo) false lo 1 × HasValue (limit hi) false hi 1
+  -- 32,752 + n, n from 1 to 9, reads as saturated at n
+  pub saturated : (r n : ℕ) → truncationInRange r ≡ true → 1 ≤ n → n ≤ 9 → readWord r (32752 + n) ≡ Saturated n
+  -- 32,767 reads as negative
+  pub negative : (r : ℕ) → truncationInRange r ≡ true → readWord r 32767 ≡ Negative

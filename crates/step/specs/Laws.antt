@@ -1,0 +1,14 @@
+-- What must be true of a step, beside the contract. `proofs/Laws.antt` shows it.
+use Prim.Native.Nat.{ℕ, suc, _≤_, _<_}
+use mathlib.Core.Bool.{true}
+use mathlib.Core.Path.{_≡_}
+use lib.IntN.{ℤ}
+use Rattle.settings.specs.declared.Settings.{Settings}
+use Rattle.settings.specs.Settings.{inRange}
+use Rattle.entries.specs.Possible.{readingInRange, possible}
+use Rattle.step.specs.Step.{step}
+
+pub record StepLaws : Type 0 where
+  -- a step takes an entry that is possible for k to one that is possible for k + 1; sample 1 takes any entry to one that is possible for 1
+  pub stays-possible : (s : Settings) → inRange s ≡ true → (k : ℕ) (e : ℤ) (x : ℕ) → k ≤ 8 → readingInRange x ≡ true
+      → (0 < k → possible s k e ≡ true) → possible s (suc k) (step s (suc k) e x) ≡ true

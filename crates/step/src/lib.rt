@@ -1,0 +1,82 @@
+// What one reading does to one entry.
+ghost use mathlib.Core.Path.{_≡_};
+ghost use mathlib.Core.Bool.{true, cond};
+ghost use Prim.Native.Nat.{_≤_, _<_};
+ghost use lib.IntN.{pos, natAbs, _*ℤ_};
+ghost use Rattle.settings.specs.Settings.{weightInRange, thresholdInRange, maxSamples};
+ghost use Rattle.entries.specs.Mark.{mark};
+ghost use Rattle.entries.specs.Possible.{readingInRange};
+ghost use Rattle.entries.specs.Range.{entryInRange};
+ghost use Rattle.step.specs.Step as Def;
+ghost use Rattle.step.specs.Step.{isAbove, stepFrom};
+use entries::MARK;
+
+// What sample n adds to: 128 at sample 1, else the entry.
+fn base(entry: i32, n: usize) -> i32
+    ensures { λ r. ⌜ r ≡ Def.base n entry ⌝ }
+{
+    if n == 1 { 128 } else { entry }
+}
+
+// The magnitude of a weight, without its sign.
+fn magnitude(weight: i32) -> u16
+    requires { ⌜ weightInRange weight ≡ true ⌝ }
+    ensures { λ r. ⌜ r ≡ natAbs weight ⌝ }
+{
+    if weight < 0 {
+        (-weight) as u16
+    } else {
+        weight as u16
+    }
+}
+
+// weight * reading. The magnitude is multiplied and then takes the sign: a product of two 16-bit numbers is a cheap one.
+fn product(weight: i32, reading: u16) -> i32
+    requires { ⌜ weightInRange weight ≡ true ⌝ }
+    requires { ⌜ readingInRange reading ≡ true ⌝ }
+    ensures { λ r. ⌜ r ≡ weight *ℤ pos reading ⌝ }
+{
+    let size = (magnitude(weight) as u32 * reading as u32) as i32;
+    if weight < 0 { -size } else { size }
+}
+
+// Whether a reading is above the threshold. Both are far below 32,768, where a signed test says the same and is the cheaper one.
+fn is_above(reading: u16, threshold: u16) -> bool
+    requires { ⌜ readingInRange reading ≡ true ⌝ }
+    requires { ⌜ thresholdInRange threshold ≡ true ⌝ }
+    ensures { λ r. ⌜ r ≡ isAbove threshold reading ⌝ }
+{
+    reading as i16 > threshold as i16
+}
+
+// One of two numbers, both at hand: no work hangs on the test.
+fn pick(test: bool, yes: i32, no: i32) -> i32
+    ensures { λ r. ⌜ r ≡ cond test yes no ⌝ }
+{
+    if test { yes } else { no }
+}
+
+// A marked entry stays, a reading above the threshold makes the mark, any other adds its product.
+fn step_from(entry: i32, reading: u16, weight: i32, threshold: u16, mark: i32) -> i32
+    requires { ⌜ weightInRange weight ≡ true ⌝ }
+    requires { ⌜ thresholdInRange threshold ≡ true ⌝ }
+    requires { ⌜ readingInRange reading ≡ true ⌝ }
+    requires { ⌜ entryInRange entry ≡ true ⌝ }
+    ensures { λ r. ⌜ r ≡ stepFrom weight (isAbove threshold reading) mark entry reading ⌝ }
+{
+    let sum = entry + product(weight, reading);
+    let next = pick(is_above(reading, threshold), mark, sum);
+    pick(entry > MARK, entry, next)
+}
+
+// The entry after a reading of sample n.
+pub fn stepped(entry: i32, reading: u16, n: usize, weight: i32, threshold: u16) -> i32
+    requires { ⌜ (1 ≤ n) × (n ≤ maxSamples) ⌝ }
+    requires { ⌜ weightInRange weight ≡ true ⌝ }
+    requires { ⌜ thresholdInRange threshold ≡ true ⌝ }
+    requires { ⌜ readingInRange reading ≡ true ⌝ }
+    requires { ⌜ (1 < n → entryInRange entry ≡ true) ⌝ }
+    ensures { λ r. ⌜ r ≡ stepFrom weight (isAbove threshold reading) (mark n) (Def.base n entry) reading ⌝ }
+{
+    step_from(base(entry, n), reading, weight, threshold, MARK + n as i32)
+}

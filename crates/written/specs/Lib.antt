@@ -1,0 +1,2 @@
+-- Check 14 of Feed.
+pub mod Written
