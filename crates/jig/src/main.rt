@@ -1,41 +1,13 @@
 // The jig: a job comes in on standard input, and its frame goes out as text, or the number of its refusal.
 ghost use mathlib.Core.Path.{_≡_};
-ghost use Prim.Native.Nat.{_≤_};
-ghost use lib.ListN.{length};
+ghost use Prim.Native.Nat.{_+_, _≤_};
+ghost use lib.ListN.{length, take};
 ghost use Rattle.io.specs.Counts.{Counts};
 ghost use Rattle.job.specs.Input.{capacity};
-use checks::Answer;
-use job::Job;
+ghost use Rattle.report.specs.Text.{textOf};
+ghost use Rattle.report.specs.Requires.{room};
 use libc::STDIN_FILENO;
-use meaning::read_word;
-use print::meaning;
-use print::number;
-use print::text;
-
-fn line(row: usize, column: usize, word: u16, truncation: u16) {
-    number(row as u64);
-    text(b" ");
-    number(column as u64);
-    text(b" ");
-    number(word as u64);
-    text(b" ");
-    meaning(read_word(word, truncation));
-    text(b"\n");
-}
-
-// The lines of a frame: the first `count` words, row by row.
-fn lines(words: &[u16], count: usize, columns: usize, truncation: u16) {
-    if columns == 0 {
-        return;
-    }
-    let mut i = 0;
-    while i < words.len() {
-        if i < count {
-            line(i / columns, i % columns, words[i], truncation);
-        }
-        i += 1;
-    }
-}
+use libc::STDOUT_FILENO;
 
 // Reads and drops a part of the input, and answers how many bytes it had.
 fn dropped() -> usize
@@ -62,22 +34,6 @@ fn drained() -> usize
     total
 }
 
-fn show(job: Job) {
-    let answer = job.answer;
-    match answer {
-        Answer::Taken => {
-            text(b"row col word meaning\n");
-            let words = job.words;
-            lines(&words, job.count, job.columns, job.truncation);
-        }
-        Answer::Refused(r) => {
-            text(b"refused ");
-            number(r.number as u64);
-            text(b"\n");
-        }
-    }
-}
-
 // Reads as much of the input as can matter, and answers how many bytes that is.
 fn kept_of(input: &mut [u8]) -> usize
     requires { ⌜ length (now input) ≡ capacity ⌝ }
@@ -86,9 +42,22 @@ fn kept_of(input: &mut [u8]) -> usize
     io::read_full(STDIN_FILENO, input)
 }
 
+// The text for an input, of which the first bytes are kept and the rest are counted.
+fn answer(input: &[u8], kept: usize, rest: usize, out: &mut [u8]) -> usize
+    requires { ⌜ Counts kept (now input) ⌝ }
+    requires { ⌜ length (now input) ≡ capacity ⌝ }
+    requires { ⌜ rest ≤ 17592186044416 ⌝ }
+    requires { ⌜ length (now out) ≡ room ⌝ }
+    ensures count { λ r. ⌜ Counts r (now (out .exit)) ⌝ }
+    ensures text { λ r. ⌜ take r (now (out .exit)) ≡ textOf (take kept (now (input .entry))) (kept + rest) ⌝ }
+{
+    report::run(&input[..kept], kept + rest, out)
+}
+
 fn main() {
     let mut input = [0u8; job::CAPACITY];
+    let mut out = [0u8; report::ROOM];
     let kept = kept_of(&mut input);
-    let rest = drained();
-    show(job::run::run(&input[..kept], kept + rest));
+    let count = answer(&input, kept, drained(), &mut out);
+    io::write_all(STDOUT_FILENO, &out[..count]);
 }

@@ -1,0 +1,39 @@
+-- `report::line::put_field` meets its contract.
+use Prim.Native.Nat.{ℕ, _+_, _≤_}
+use mathlib.Core.List.{List, [], _∷_, _++_, append-assoc}
+use mathlib.Core.Path.{_≡_, ap, sym, subst, _∙_}
+use borrow.Author.Needs.{needs}
+use native.Mathlib.Omega.{arith}
+use denote.Ref.{now}
+use lib.ListN.{length, take}
+use Rattle.report.specs.Text.{decimal, space}
+use Rattle.report.proofs.Appended.{more}
+use Rattle.report.proofs.line.put_field.Statement.{statement}
+use Rattle.report.proofs.line.put_field.Tie as tie
+use Rattle.report.proofs.line.put_field.Reads as reads
+use Rattle.report.proofs.line.put_field.Lts as lts
+use Rattle.report.proofs.put.put.Reads as put-reads
+use Rattle.report.proofs.put.put_number.Reads as put-number-reads
+
+put-number-requires : tie.Need-put-number-requires
+put-number-requires c κs = search needs
+
+slice-aggregate-put : tie.Need-slice-aggregate-put
+slice-aggregate-put c = search needs
+
+put-requires : tie.Need-put-requires
+put-requires c κs = search needs
+
+same-length : tie.Need-same-length
+same-length c = search needs
+
+returns : tie.Need-returns
+returns c =
+    let a = c .before .before .before .before .before .before .before .before .before .before .args in
+    let one = c .before .before .before .before .before .before .before .put-number in
+    let two = c .before .before .put in
+    (omega (arith, one .ensures .0, two .ensures .0), more (take (a .at) (now (a .out))) (decimal (a .n)) space (one .ensures .1) (two .ensures .1))
+
+pub put-field-spec : {M : Type 1} → statement M
+put-field-spec =
+    tie.close (tie.spec put-number-requires slice-aggregate-put put-requires same-length returns)
