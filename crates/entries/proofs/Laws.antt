@@ -5,4 +5,4 @@ use Rattle.entries.specs.Laws.{EntryLaws}
 
 pub laws : EntryLaws
 unfolding possibleAfter
-laws = record { largest-sum = (refl, refl) }
+laws = record { largest-sum = (refl, refl); smallest-sum = (refl, refl); known-marks = (refl, refl, refl, refl, refl) }

@@ -1,7 +1,7 @@
 -- The laws of reading a word.
 use Prim.Native.Nat.{ℕ, _+_, _*_, _^_, _≤_, _<_}
 use mathlib.Core.Bool.{true, false}
-use mathlib.Core.Path.{_≡_, ap, _∙_}
+use mathlib.Core.Path.{_≡_, refl, ap, _∙_}
 use borrow.Author.Tests.{lt-ltb, le-ltb, le-leb}
 use native.Mathlib.Nat.{mul-le-mul}
 use native.Mathlib.Omega.{arith}
@@ -47,8 +47,10 @@ module _ (r : ℕ) (in-r : truncationInRange r ≡ true) where
   negative = reads 32767
 
 pub laws : MeaningLaws
+unfolding meaning
 laws = record {
   limits-exact = λ r w t. limits-exact r t w;
   saturated = λ r n t. flag r t n;
   negative = negative;
+  known-flags = (refl, refl, refl, refl, refl, refl, refl, refl);
 }

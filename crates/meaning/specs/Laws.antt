@@ -4,8 +4,8 @@ use mathlib.Core.Bool.{true, false}
 use mathlib.Core.Path.{_≡_}
 use lib.Ieee.Exact.{HasValue}
 use Rattle.settings.specs.Settings.{truncationInRange}
-use Rattle.meaning.specs.declared.WordRead.the-variants.{Ordinary, Saturated, Negative}
-use Rattle.meaning.specs.Meaning.{limit, readWord}
+use Rattle.meaning.specs.declared.WordRead.the-variants.{Ordinary, Saturated, Negative, Unassigned}
+use Rattle.meaning.specs.Meaning.{limit, meaning, readWord}
 
 pub record MeaningLaws : Type 0 where
   -- a word below 32,752 reads as ordinary, with the limits w × 2^r and (w + 1) × 2^r, both exact
@@ -17,3 +17,12 @@ pub record MeaningLaws : Type 0 where
   pub saturated : (r n : ℕ) → truncationInRange r ≡ true → 1 ≤ n → n ≤ 9 → readWord r (32752 + n) ≡ Saturated n
   -- 32,767 reads as negative
   pub negative : (r : ℕ) → truncationInRange r ≡ true → readWord r 32767 ≡ Negative
+  -- 32,753 and 32,761 mean saturated at 1 and 9, 32,767 negative; 32,752, 32,762, 32,766, 32,768 and 65,535 mean nothing
+  pub known-flags : (meaning 2 32753 ≡ Saturated 1)
+      × (meaning 2 32761 ≡ Saturated 9)
+      × (meaning 2 32767 ≡ Negative)
+      × (meaning 2 32752 ≡ Unassigned)
+      × (meaning 2 32762 ≡ Unassigned)
+      × (meaning 2 32766 ≡ Unassigned)
+      × (meaning 2 32768 ≡ Unassigned)
+      × (meaning 2 65535 ≡ Unassigned)
