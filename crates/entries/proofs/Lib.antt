@@ -1,6 +1,7 @@
 -- The laws of entries and readings.
 pub mod Marks
 pub mod Readings
+pub mod Wrapped
 pub mod Possible
 pub mod Range
 pub mod Laws

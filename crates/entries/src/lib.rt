@@ -2,9 +2,9 @@
 ghost use mathlib.Core.Path.{_≡_};
 ghost use mathlib.Core.Bool.{not, cond};
 ghost use Prim.Native.Nat.{_≤_};
-ghost use lib.IntN.{pos, _-ℤ_};
+ghost use lib.IntN.{pos, negℤ, _+ℤ_, _-ℤ_};
 ghost use lib.ListN.{length, getD};
-ghost use lib.Signed.{_≤ℤ_};
+ghost use lib.Signed.{_≤ℤ_, leZ};
 ghost use Rattle.laws.specs.Lists.{every};
 ghost use Rattle.checks.specs.Search.{firstPlace};
 ghost use Rattle.entries.specs.Mark.{marked};
@@ -19,6 +19,20 @@ pub const MAX_READING: u16 = 16383;
 // The largest weight times the largest reading.
 const MAX_PRODUCT: i32 = 245745;
 
+// The sum modulo 2^32. All three ends are one machine addition.
+pub fn wrapping_add(a: i32, b: i32) -> i32
+    ensures { λ r. ⌜ r ≡ cond (leZ (pos 2147483648) (a +ℤ b)) (a +ℤ b -ℤ pos 4294967296) (cond (leZ (negℤ (pos 2147483648)) (a +ℤ b)) (a +ℤ b) (a +ℤ b +ℤ pos 4294967296)) ⌝ }
+{
+    let sum = a as i64 + b as i64;
+    if sum >= 2147483648 {
+        (sum - 4294967296) as i32
+    } else if sum >= -2147483648 {
+        sum as i32
+    } else {
+        (sum + 4294967296) as i32
+    }
+}
+
 // A mark moved down by a gap; a sum stays.
 fn lowered(entry: i32, gap: i32) -> i32
     requires { ⌜ (pos 0 ≤ℤ gap) × (gap ≤ℤ pos 1073741825) ⌝ }
@@ -27,16 +41,17 @@ fn lowered(entry: i32, gap: i32) -> i32
     if entry > MARK { entry - gap } else { entry }
 }
 
-// Whether an entry is possible after k samples. With the mark of sample k moved down to the highest sum, one range holds sums and marks.
+// Whether an entry is possible after k samples. With the mark of sample k moved down to the highest sum, one range holds sums and marks; with the
+// lowest sum moved to the lowest number, one test tells the range.
 fn is_possible(entry: i32, k: usize) -> bool
     requires { ⌜ k ≤ 9 ⌝ }
     ensures { λ r. ⌜ r ≡ possibleAfter k entry ⌝ }
 {
     let samples = k as i32;
     let span = samples * MAX_PRODUCT;
-    let high = 128 + span;
-    let moved = lowered(entry, MARK + samples - high);
-    (128 - span <= moved) & (moved <= high)
+    let moved = lowered(entry, MARK + samples - (128 + span));
+    let lowest = wrapping_add(i32::MIN, span - 128);
+    wrapping_add(moved, lowest) <= i32::MIN + 2 * span
 }
 
 // Whether each entry is, with no early exit.

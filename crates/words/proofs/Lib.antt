@@ -1,7 +1,7 @@
 -- The laws of words.
 pub mod Firsts
 pub mod Entries
-pub mod Turned
+pub mod Raised
 pub mod Words
 pub mod Squares
 pub mod Grid

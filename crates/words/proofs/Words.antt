@@ -1,30 +1,38 @@
 -- A word, from a sample or a total.
+--     in-range                   an r in range is 1 to 3
 --     kept                       a sample is left as it is by the mask
 --     cutWord, cut-lt            the word of a total
+--     masked                     as the code takes it
 --     pixel, square              what the code computes is the word
-use Prim.Native.Nat.{ℕ, _+_, _-_, _*_, _/_, _%_, _^_, _≤_, _<_, max}
+use Prim.Native.Nat.{ℕ, suc, _+_, _-_, _*_, _/_, _%_, _^_, _≤_, _<_, min}
 use mathlib.Core.Bool.{Bool, true, false, cond}
 use mathlib.Core.List.{List, [], _∷_}
 use mathlib.Core.Option.{Option, none, some}
-use mathlib.Core.Path.{_≡_, refl, _∙_}
-use native.Mathlib.Nat.{mod-eq-of-lt, one-mul, mul-comm, max-zero}
+use mathlib.Core.Path.{_≡_, refl, ap, _∙_}
+use native.Mathlib.Nat.{mod-eq-of-lt, one-mul, mul-comm}
 use native.Mathlib.Omega.{arith}
-use borrow.Author.Tests.{lt-ltb}
-use lib.Bits.{bitAnd, and-mask}
-use lib.Dec.{ltb}
+use borrow.Author.Tests.{leb-true, le-ltb}
+use lib.Bits.{bitAnd, bitOr, and-mask, or-zero-r, or-add-and}
+use lib.Dec.{leb}
 use lib.IntN.{ℤ, pos, negsuc, _+ℤ_, _-ℤ_, natAbs, +ℤ-idr, +ℤ-assoc}
 use lib.ListN.{length}
 use lib.Pow.{pow-add}
-use lib.Signed.{ltZ, _≤ℤ_}
+use lib.Signed.{ltZ, _≤ℤ_, shrZ}
+use mir.Syntax.{w32}
+use mir.Val.{SFits, toZ, ofZ}
+use mir.Facts.{toZ-pos}
 use Rattle.laws.specs.Lists.{total}
 use Rattle.laws.proofs.Ints.{signed}
-use Rattle.laws.proofs.Numbers.{max-assoc, less}
-use Rattle.laws.proofs.Parts.{All}
+use Rattle.laws.proofs.Numbers.{less}
+use Rattle.laws.proofs.Tests.{and-true}
+use Rattle.settings.specs.Settings.{truncationInRange}
 use Rattle.entries.specs.Mark.{marked, sampleOf}
 use Rattle.entries.proofs.Marks.{is-marked, sample-is, sample-none, by-mark}
-use Rattle.words.specs.Word.{smallestMark, isNegative, cutBy, wordBy, wordOf}
-use Rattle.entries.specs.Range.{entryInRange}
-use Rattle.words.proofs.Entries.{ahead, ahead-smaller, Few, few, few-smaller}
+use Rattle.words.specs.Word.{smaller, smallestMark, isNegative, cutBy, wordBy, wordOf}
+use Rattle.words.proofs.Raised.{Raised}
+
+pub in-range : (r : ℕ) → truncationInRange r ≡ true → (1 ≤ r) × (r ≤ 3)
+in-range r e = let t = and-true (leb 1 r) (leb r 3) e in (leb-true 1 r (t .0), leb-true r 3 (t .1))
 
 -- a sample
 pub kept : (z : ℤ) → (pos 0 ≤ℤ z) × (z ≤ℤ pos 15) → (bitAnd (natAbs z) 15 ≡ natAbs z) × (natAbs z ≤ 15)
@@ -42,6 +50,19 @@ cut-lt d z = either (ltZ z (pos 0)) (natAbs z / d)
     either true n = omega arith
     either false n = omega arith
 
+-- all 32 bits set
+ones : (a : ℕ) → a < 2 ^ 32 → bitOr a 4294967295 ≡ 4294967295
+ones a h = omega (arith, or-add-and a 4294967295, and-mask a 32 ∙ mod-eq-of-lt h)
+
+-- as the code takes it
+pub masked : (z : ℤ) (s : ℕ) → SFits w32 z → bitAnd (bitOr (ofZ w32 (shrZ z (2 ^ s))) (ofZ w32 (shrZ z 2147483648))) 32767 ≡ cutWord (2 ^ s) z
+masked (pos n) s f =
+    let sign : n / 2147483648 ≡ 0 = omega (arith, f .sfits) in
+    rw (sign, or-zero-r, le-ltb n 0 (omega arith)) (and-mask (n / 2 ^ s) 15)
+masked (negsuc m) s f =
+    let sign : m / 2147483648 ≡ 0 = omega (arith, f .sfits) in
+    rw (sign, ones (4294967296 - suc (m / 2 ^ s)) (omega arith)) (and-mask 4294967295 15)
+
 pub pixel : (e : ℤ) (r : ℕ) → cond (marked e) (32752 + natAbs (e -ℤ pos 1073741824)) (cutWord (2 ^ r) e) ≡ wordOf r (e ∷ [])
 unfolding smallestMark isNegative total
 pixel e r =
@@ -51,25 +72,45 @@ pixel e r =
 
 -- ---- a square
 
-few-all : (es : List ℤ) → All (λ e. entryInRange e ≡ true) es → Few (smallestMark es)
+smaller-none : (o : Option ℕ) → smaller o none ≡ o
+smaller-none none = refl
+smaller-none (some n) = refl
+
+smaller-assoc : (o p q : Option ℕ) → smaller (smaller o p) q ≡ smaller o (smaller p q)
+smaller-assoc none p q = refl
+smaller-assoc (some a) none q = refl
+smaller-assoc (some a) (some b) none = refl
+smaller-assoc (some a) (some b) (some c) = ap some (omega arith)
+
+-- as the code takes it, by two and two
+pub by-pairs : (a b c d : ℤ) → smaller (smaller (sampleOf a) (sampleOf b)) (smaller (sampleOf c) (sampleOf d)) ≡ smallestMark (a ∷ b ∷ c ∷ d ∷ [])
 unfolding smallestMark
-few-all [] h = tt
-few-all (e ∷ es) h = few-smaller (sampleOf e) (smallestMark es) (few e (h .0)) (few-all es (h .1))
+by-pairs a b c d = rw (smaller-none (sampleOf d)) (smaller-assoc (sampleOf a) (sampleOf b) (smaller (sampleOf c) (sampleOf d)))
 
-word-of : (r : ℕ) (es : List ℤ) (o : Option ℕ) (t : ℤ) → Few o → (o ≡ none → t ≡ total es) → cond (ltb 0 (ahead o)) (32752 + (15 - ahead o)) (cutWord (length es * 2 ^ r) t) ≡ wordBy r o es
+-- the last four bits, as the code takes them
+abbrev pub lastBits : ℤ → ℤ
+lastBits z = toZ w32 (bitAnd (ofZ w32 z) 15)
+
+last-is : (x : ℕ) → toZ w32 (bitAnd x 15) ≡ pos (x % 16)
+last-is x = ap (toZ w32) (and-mask x 4) ∙ toZ-pos w32 {n = x % 16} (omega arith)
+
+pub last-range : (z : ℤ) → (pos 0 ≤ℤ lastBits z) × (lastBits z ≤ℤ pos 15)
+last-range z = rw (last-is (ofZ w32 z)) (omega signed, omega signed)
+
+word-of : (r : ℕ) (es : List ℤ) (o : Option ℕ) (z t : ℤ) → Raised o z → (o ≡ none → t ≡ total es)
+    → cond (ltZ z (pos 0)) (32752 + natAbs (lastBits z)) (cutWord (length es * 2 ^ r) t) ≡ wordBy r o es
 unfolding isNegative
-word-of r es none t f h = rw (h refl)
-word-of r es (some n) t f h = rw (lt-ltb 0 (15 - n) (omega arith)) (omega arith)
+word-of r es none (pos m) t f h = rw (le-ltb m 0 (omega arith), h refl)
+word-of r es none (negsuc m) t f h = absurd (omega arith)
+word-of r es (some n) (pos m) t f h = absurd (omega arith)
+word-of r es (some n) (negsuc m) t f h = rw (last-is (4294967296 - suc m)) (omega arith)
 
-pub square : (a b c d : ℤ) (r k : ℕ) (t : ℤ)
-    → All (λ e. entryInRange e ≡ true) (a ∷ b ∷ c ∷ d ∷ [])
-    → k ≡ max (max (ahead (sampleOf a)) (ahead (sampleOf b))) (max (ahead (sampleOf c)) (ahead (sampleOf d)))
-    → t ≡ cond (ltb 0 k) (pos 0) (a +ℤ b +ℤ (c +ℤ d))
-    → cond (ltb 0 k) (32752 + (15 - k)) (cutWord (2 ^ (r + 2)) t) ≡ wordOf r (a ∷ b ∷ c ∷ d ∷ [])
-unfolding smallestMark total
-square a b c d r k t h p q =
+pub square : (a b c d : ℤ) (r : ℕ) (z t : ℤ) → let o = smallestMark (a ∷ b ∷ c ∷ d ∷ []) in
+    Raised o z → (o ≡ none → t ≡ a +ℤ b +ℤ (c +ℤ d))
+    → cond (ltZ z (pos 0)) (32752 + natAbs (lastBits z)) (cutWord (2 ^ (r + 2)) t) ≡ wordOf r (a ∷ b ∷ c ∷ d ∷ [])
+unfolding total
+square a b c d r z t f h =
     let es = a ∷ b ∷ c ∷ d ∷ [] in
-    let m : k ≡ ahead (smallestMark es) = p ∙ simp (ahead-smaller, max-zero) (max-assoc _ _ _) in
     let u : a +ℤ b +ℤ (c +ℤ d) ≡ total es = rw (+ℤ-idr d) (+ℤ-assoc a b (c +ℤ d)) in
     let v : 2 ^ (r + 2) ≡ 4 * 2 ^ r = pow-add 2 r 2 ∙ mul-comm (2 ^ r) 4 in
-    rw (m, v) (word-of r es (smallestMark es) t (few-all es h) (λ e. rw (m, e) at q ∙ u))
+    rw v (word-of r es (smallestMark es) z t f (λ e. h e ∙ u))

@@ -3,48 +3,35 @@ ghost use mathlib.Core.Path.{_≡_};
 ghost use mathlib.Core.Bool.{true, false, cond};
 ghost use mathlib.Core.List.{[], _∷_};
 ghost use Prim.Native.Nat.{_+_, _^_, _<_, _≤_};
-ghost use lib.IntN.{pos, negℤ, natAbs, _+ℤ_, _-ℤ_};
+ghost use lib.IntN.{pos, natAbs, _+ℤ_, _-ℤ_};
 ghost use lib.Signed.{_≤ℤ_, leZ, ltZ};
 ghost use Rattle.settings.specs.Settings.{truncationInRange};
 ghost use Rattle.entries.specs.Mark.{marked};
-ghost use Rattle.entries.specs.Range.{entryInRange};
 ghost use Rattle.words.specs.Word.{wordOf, cutBy};
+ghost use Rattle.words.specs.Requires.{readable};
+use entries::wrapping_add;
 use entries::MARK;
 
-// An entry with its last four bits turned over: of two marks the earlier one is then the larger, and each sum is still below each mark.
-fn turned(entry: i32) -> i32
-    requires { ⌜ entryInRange entry ≡ true ⌝ }
-    ensures mark { λ r. ⌜ (marked entry ≡ true → r ≡ pos 2147483663 -ℤ entry) ⌝ }
-    ensures near { λ r. ⌜ (entry ≤ℤ (r +ℤ pos 15)) × (r ≤ℤ (entry +ℤ pos 15)) ⌝ }
+// An entry and 2^30, modulo 2^32: a sum is then above 0, and a mark below it, of two marks the earlier one lower. The total of four is left as it was.
+fn raised(entry: i32) -> i32
+    requires { ⌜ readable entry ≡ true ⌝ }
+    ensures { λ r. ⌜ r ≡ cond (marked entry) (entry -ℤ pos 3221225472) (entry +ℤ pos 1073741824) ⌝ }
 {
-    entry ^ 15
+    wrapping_add(entry, MARK)
 }
 
-fn greater(a: i32, b: i32) -> i32
-    ensures { λ r. ⌜ r ≡ cond (leZ b a) a b ⌝ }
+fn smaller(a: i32, b: i32) -> i32
+    ensures { λ r. ⌜ r ≡ cond (leZ a b) a b ⌝ }
 {
-    if a >= b { a } else { b }
+    if a <= b { a } else { b }
 }
 
-// The total of four sums, and 0 where one of them is a mark. Four marks don't fit 32 bits.
-fn total_of(marked: bool, a: i32, b: i32, c: i32, d: i32) -> i32
-    requires { ⌜ (marked ≡ false → let t = a +ℤ b +ℤ (c +ℤ d) in (negℤ (pos 1073741824) ≤ℤ t) × (t ≤ℤ pos 1073741824)) ⌝ }
-    ensures { λ r. ⌜ r ≡ cond marked (pos 0) (a +ℤ b +ℤ (c +ℤ d)) ⌝ }
-{
-    let total = a as i64 + b as i64 + (c as i64 + d as i64);
-    if marked { 0 } else { total as i32 }
-}
-
-// The sign is taken before anything is cut off.
+// The sign is taken before anything is cut off: all bits of a negative total are set.
 fn cut_off(total: i32, shift: u16) -> u32
     requires { ⌜ shift ≤ 5 ⌝ }
     ensures { λ r. ⌜ r ≡ cond (ltZ total (pos 0)) 32767 (cutBy (2 ^ shift) total) ⌝ }
 {
-    if total < 0 {
-        32767
-    } else {
-        (total as u32 >> shift) & 32767
-    }
+    (((total >> shift) | (total >> 31)) & 32767) as u32
 }
 
 // A mark's word, or the other. The mask leaves a sample as it is, and shows the compiler that both words have 15 bits.
@@ -63,7 +50,7 @@ fn flagged(marked: bool, sample: i32, word: u32) -> u16
 
 // The word of a pixel.
 pub(crate) fn pixel_word(entry: i32, truncation: u16) -> u16
-    requires { ⌜ entryInRange entry ≡ true ⌝ }
+    requires { ⌜ readable entry ≡ true ⌝ }
     requires { ⌜ truncationInRange truncation ≡ true ⌝ }
     ensures { λ r. ⌜ r ≡ wordOf truncation (entry ∷ []) ⌝ }
 {
@@ -72,15 +59,16 @@ pub(crate) fn pixel_word(entry: i32, truncation: u16) -> u16
 
 // The word of a square.
 pub(crate) fn square_word(a: i32, b: i32, c: i32, d: i32, truncation: u16) -> u16
-    requires { ⌜ (entryInRange a ≡ true) × (entryInRange b ≡ true) ⌝ }
-    requires { ⌜ (entryInRange c ≡ true) × (entryInRange d ≡ true) ⌝ }
+    requires { ⌜ (readable a ≡ true) × (readable b ≡ true) ⌝ }
+    requires { ⌜ (readable c ≡ true) × (readable d ≡ true) ⌝ }
     requires { ⌜ truncationInRange truncation ≡ true ⌝ }
     ensures { λ r. ⌜ r ≡ wordOf truncation (a ∷ b ∷ c ∷ d ∷ []) ⌝ }
 {
-    let upper = greater(turned(a), turned(b));
-    let lower = greater(turned(c), turned(d));
-    let first = greater(upper, lower);
-    let marked = first > MARK;
-    let total = total_of(marked, a, b, c, d);
-    flagged(marked, MARK + 15 - first, cut_off(total, truncation + 2))
+    let p = raised(a);
+    let q = raised(b);
+    let s = raised(c);
+    let t = raised(d);
+    let first = smaller(smaller(p, q), smaller(s, t));
+    let total = wrapping_add(wrapping_add(p, q), wrapping_add(s, t));
+    flagged(first < 0, first & 15, cut_off(total, truncation + 2))
 }

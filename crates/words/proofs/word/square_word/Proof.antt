@@ -1,140 +1,141 @@
--- `words::word::square_word` meets its contract: the largest turned entry has the smallest sample, and where none is marked the total is that of four sums.
-use mathlib.Core.Path.{_≡_, refl, sym, _∙_}
-use mathlib.Core.Bool.{false, cond}
-use Prim.Native.Nat.{ℕ, max, _+_, _^_, _≤_}
+-- `words::word::square_word` meets its contract: the smallest raised entry has the smallest sample, and where none is marked the total is that of four sums.
+use mathlib.Core.Path.{_≡_, _∙_}
+use mathlib.Core.Bool.{cond}
+use mathlib.Core.List.{List, [], _∷_}
+use mathlib.Core.Option.{none}
+use Prim.Native.Nat.{ℕ, _+_, _^_}
 use native.Mathlib.Omega.{arith}
 use borrow.Author.Needs.{needs}
-use borrow.Author.Tests.{ltb-false}
-use lib.Dec.{ltb}
-use lib.IntN.{ℤ, pos, negℤ, _+ℤ_, _-ℤ_}
-use lib.Signed.{ltZ, _≤ℤ_}
+use lib.IntN.{ℤ, pos, _+ℤ_, _-ℤ_}
 use mir.Syntax.{w32}
-use mir.Val.{SFits, toZ, ofZ}
+use mir.Val.{toZ, ofZ}
 use mir.Facts.{toZ-ofZ}
-use Rattle.laws.proofs.Ints.{sum, neg-up, neg-dn, fits, signed, back}
-use Rattle.entries.specs.Mark.{sampleOf}
-use Rattle.words.proofs.Entries.{ahead, ahead-le, ahead-none}
-use Rattle.words.proofs.Turned.{depth, depth-over, depth-sample, depth-shown, Found, found, larger}
-use Rattle.settings.proofs.Parts.{truncation-parts}
-use Rattle.words.proofs.Words.{cutWord, cut-lt, square}
+use Rattle.laws.proofs.Ints.{back}
+use Rattle.entries.specs.Mark.{marked, sampleOf}
+use Rattle.entries.proofs.Wrapped.{wrapped}
+use Rattle.words.specs.Word.{smaller, smallestMark}
+use Rattle.words.proofs.Entries.{none-both}
+use Rattle.words.proofs.Raised.{Raised, entry-raised, lower, sum-raised, whole}
+use Rattle.words.proofs.Words.{in-range, cutWord, cut-lt, by-pairs, last-range, square}
 use Rattle.words.proofs.word.square_word.Statement.{statement}
 use Rattle.words.proofs.word.square_word.Tie as tie
 
--- the largest of the four
-module _ (c : tie.After-greater3) where
+-- the four entries, raised
+module _ (c : tie.After-raised4) where
   abbrev s : tie.Start
-  s = c .before .before .before .before .before .before .before
+  s = c .before .before .before .before
+
+  abbrev a : ℤ
+  a = s .args .a
+
+  abbrev b : ℤ
+  b = s .args .b
+
+  abbrev e : ℤ
+  e = s .args .c
+
+  abbrev d : ℤ
+  d = s .args .d
+
+  abbrev p : ℤ
+  p = c .before .before .before .raised .result
+
+  abbrev q : ℤ
+  q = c .before .before .raised2 .result
+
+  abbrev u : ℤ
+  u = c .before .raised3 .result
+
+  abbrev t : ℤ
+  t = c .raised4 .result
+
+  -- as the locals hold them
+  hp : toZ w32 (ofZ w32 p) ≡ p
+  hp = back w32 p (c .before .before .before .raised .ok)
+
+  hq : toZ w32 (ofZ w32 q) ≡ q
+  hq = back w32 q (c .before .before .raised2 .ok)
+
+  hu : toZ w32 (ofZ w32 u) ≡ u
+  hu = back w32 u (c .before .raised3 .ok)
+
+  ht : toZ w32 (ofZ w32 t) ≡ t
+  ht = back w32 t (c .raised4 .ok)
+
+  abbrev up-to : ℤ → ℤ
+  up-to z = cond (marked z) (z -ℤ pos 3221225472) (z +ℤ pos 1073741824)
+
+  is : (p ≡ up-to a) × (q ≡ up-to b) × (u ≡ up-to e) × (t ≡ up-to d)
+  is =
+      let f = s .fits in (
+        rw (toZ-ofZ (f .a)) at (c .before .before .before .raised .ensures),
+        rw (toZ-ofZ (f .b)) at (c .before .before .raised2 .ensures),
+        rw (toZ-ofZ (f .c)) at (c .before .raised3 .ensures),
+        rw (toZ-ofZ (f .d)) at (c .raised4 .ensures),
+      )
+
+  -- where none is marked
+  total-is : smallestMark (a ∷ b ∷ e ∷ d ∷ []) ≡ none → wrapped (wrapped (p +ℤ q) +ℤ wrapped (u +ℤ t)) ≡ a +ℤ b +ℤ (e +ℤ d)
+  total-is o =
+      let h = s .pre in
+      let n = none-both _ _ (by-pairs a b e d ∙ o) in
+      let m = none-both _ _ (n .0) in
+      let l = none-both _ _ (n .1) in
+      whole a b e d p q u t
+      (sum-raised a p (h .0 .0) (is .0) (m .0)) (sum-raised b q (h .0 .1) (is .1) (m .1))
+      (sum-raised e u (h .1 .0 .0) (is .2) (l .0)) (sum-raised d t (h .1 .0 .1) (is .3) (l .1))
+
+joined : (x y v w z : ℤ) → z ≡ wrapped (x +ℤ y) → x ≡ v → y ≡ w → z ≡ wrapped (v +ℤ w)
+joined x y v w z h e f = rw (← e, ← f) h
+
+-- the smallest of the four, and their total
+module _ (c : tie.After-wrapping-add3) where
+  abbrev r : tie.After-raised4
+  r = c .before .before .before .before .before .before
 
   abbrev z : ℤ
-  z = c .greater3 .result
+  z = c .before .before .before .smaller3 .result
 
-  held : toZ w32 (ofZ w32 z) ≡ z
-  held = back w32 z (c .greater3 .ok)
+  hz : toZ w32 (ofZ w32 z) ≡ z
+  hz = back w32 z (c .before .before .before .smaller3 .ok)
 
-  abbrev ka : ℕ
-  ka = ahead (sampleOf (s .args .a))
-
-  abbrev kb : ℕ
-  kb = ahead (sampleOf (s .args .b))
-
-  abbrev kc : ℕ
-  kc = ahead (sampleOf (s .args .c))
-
-  abbrev kd : ℕ
-  kd = ahead (sampleOf (s .args .d))
-
-  abbrev k : ℕ
-  k = max (max ka kb) (max kc kd)
-
-  upper : Found (max ka kb) (c .before .before .before .before .greater .result)
-  upper =
-      let x = c .before .before .before .before .before .before .turned in
-      let y = c .before .before .before .before .before .turned2 in
-      larger (x .result) (y .result) _ (x .ok) (y .ok) (c .before .before .before .before .greater .ensures)
-      (found (s .args .a) (x .result) (s .fits .a) (s .pre .0 .0) (x .ensures))
-      (found (s .args .b) (y .result) (s .fits .b) (s .pre .0 .1) (y .ensures))
-
-  lower : Found (max kc kd) (c .before .greater2 .result)
-  lower =
-      let x = c .before .before .before .turned3 in
-      let y = c .before .before .turned4 in
-      larger (x .result) (y .result) _ (x .ok) (y .ok) (c .before .greater2 .ensures)
-      (found (s .args .c) (x .result) (s .fits .c) (s .pre .1 .0 .0) (x .ensures))
-      (found (s .args .d) (y .result) (s .fits .d) (s .pre .1 .0 .1) (y .ensures))
-
-  first : Found k z
+  first : Raised (smallestMark (a r ∷ b r ∷ e r ∷ d r ∷ [])) z
   first =
-      let x = c .before .before .before .before .greater in
-      let y = c .before .greater2 in
-      larger (x .result) (y .result) z (x .ok) (y .ok) (c .greater3 .ensures) upper lower
-
-  high : k ≤ 14
-  high =
-      let t = s .args in
-      omega (arith, ahead-le (t .a), ahead-le (t .b), ahead-le (t .c), ahead-le (t .d))
-
-  abbrev four : ℤ
-  four = s .args .a +ℤ s .args .b +ℤ (s .args .c +ℤ s .args .d)
-
-  -- where none is marked the four sums are small
-  small : ltZ (pos 1073741824) z ≡ false → (negℤ (pos 1073741824) ≤ℤ four) × (four ≤ℤ pos 1073741824)
-  small t =
-      let a = s .args in
-      let none : k ≡ 0 = omega (arith, ltb-false 0 (depth z) (sym (depth-over z) ∙ t), first .0) in
-      let sa = ahead-none (a .a) (s .pre .0 .0) (omega arith) in
-      let sb = ahead-none (a .b) (s .pre .0 .1) (omega arith) in
-      let sc = ahead-none (a .c) (s .pre .1 .0 .0) (omega arith) in
-      let sd = ahead-none (a .d) (s .pre .1 .0 .1) (omega arith) in
-      let upper-sum = sum (a .a) (a .b) in
-      let lower-sum = sum (a .c) (a .d) in
-      let whole = sum (a .a +ℤ a .b) (a .c +ℤ a .d) in
-      (omega signed, omega signed)
-
-  difference : SFits w32 (pos 1073741839 -ℤ z)
-  difference = fits w32 _ (omega (arith, first .1, first .2, sum (pos 1073741839) (negℤ z), neg-up z, neg-dn z))
-
-total-of-requires : tie.Need-total-of-requires
-total-of-requires c κs = let f = s c .fits in simp (toZ-ofZ, f .a, f .b, f .c, f .d) (rw (held c) (small c))
-
-sub-flagged : tie.Need-sub-flagged
-sub-flagged c = rw (held (c .before)) (difference (c .before))
-
-add-cut-off : tie.Need-add-cut-off
-add-cut-off c = omega (arith, truncation-parts (s (c .before) .args .truncation) (s (c .before) .pre .1 .1))
-
-cut-off-requires : tie.Need-cut-off-requires
-cut-off-requires c κs = omega (arith, truncation-parts (s (c .before) .args .truncation) (s (c .before) .pre .1 .1))
-
--- the total, and its word
-module _ (c : tie.After-cut-off) where
-  abbrev g : tie.After-greater3
-  g = c .before .before
+      let h = s r .pre in
+      let x = c .before .before .before .before .before .smaller in
+      let y = c .before .before .before .before .smaller2 in
+      let f = lower (sampleOf (a r)) (sampleOf (b r)) (p r) (q r) (x .result) (rw (hp r, hq r) at (x .ensures)) (entry-raised (a r) (p r) (h .0 .0) (is r .0)) (entry-raised (b r) (q r) (h .0 .1) (is r .1)) in
+      let g = lower (sampleOf (e r)) (sampleOf (d r)) (u r) (t r) (y .result) (rw (hu r, ht r) at (y .ensures)) (entry-raised (e r) (u r) (h .1 .0 .0) (is r .2)) (entry-raised (d r) (t r) (h .1 .0 .1) (is r .3)) in
+      rw (← by-pairs (a r) (b r) (e r) (d r))
+      (lower (smaller (sampleOf (a r)) (sampleOf (b r))) (smaller (sampleOf (e r)) (sampleOf (d r))) (x .result) (y .result) z (rw (back w32 (x .result) (x .ok), back w32 (y .result) (y .ok)) at (c .before .before .before .smaller3 .ensures)) f g)
 
   abbrev total : ℤ
-  total = c .before .total-of .result
+  total = c .wrapping-add3 .result
 
-  total-is : total ≡ cond (ltb 0 (k g)) (pos 0) (four g)
-  total-is = let f = s g .fits in rw (held g, depth-over (z g), first g .0) at (simp (toZ-ofZ, f .a, f .b, f .c, f .d) at (c .before .total-of .ensures))
+  sums : total ≡ wrapped (wrapped (p r +ℤ q r) +ℤ wrapped (u r +ℤ t r))
+  sums =
+      let x = c .before .before .wrapping-add in
+      let y = c .before .wrapping-add2 in
+      joined (x .result) (y .result) _ _ total (rw (back w32 (x .result) (x .ok), back w32 (y .result) (y .ok)) at (c .wrapping-add3 .ensures)) (rw (hp r, hq r) at (x .ensures)) (rw (hu r, ht r) at (y .ensures))
 
-  cut : c .cut-off .result ≡ cutWord (2 ^ (s g .args .truncation + 2)) total
-  cut = rw (back w32 total (c .before .total-of .ok)) at (c .cut-off .ensures)
+add-cut-off : tie.Need-add-cut-off
+add-cut-off c = omega (arith, in-range (s (r c) .args .truncation) (s (r c) .pre .1 .1))
 
-  sample : toZ w32 (ofZ w32 (pos 1073741839 -ℤ toZ w32 (ofZ w32 (z g)))) ≡ pos 1073741839 -ℤ z g
-  sample = rw (held g, toZ-ofZ (difference g))
+cut-off-requires : tie.Need-cut-off-requires
+cut-off-requires c κs = omega (arith, in-range (s (r c) .args .truncation) (s (r c) .pre .1 .1))
+
+cut : (c : tie.After-cut-off) → c .cut-off .result ≡ cutWord (2 ^ (s (r (c .before)) .args .truncation + 2)) (total (c .before))
+cut c = rw (back w32 (total (c .before)) (c .before .wrapping-add3 .ok)) at (c .cut-off .ensures)
 
 flagged-requires : tie.Need-flagged-requires
-flagged-requires c κs =
-    let b = g c in
-    rw (sample c, held b) (λ t. rw (depth-sample (z b) t (rw (first b .0) (high b))) (omega signed, omega signed), rw (cut c) (cut-lt _ (total c)))
+flagged-requires c κs = (λ t. last-range (z (c .before)), rw (cut c) (cut-lt _ (total (c .before))))
 
 returns : tie.Need-returns
 returns c =
-    let b = g (c .before) in
-    let a = s b .args in
-    let p = s b .pre in
-    rw (sample (c .before), held b) at (c .flagged .ensures)
-    ∙ depth-shown (z b) (k b) _ _ (first b .0) (high b) (cut (c .before))
-    ∙ square (a .a) (a .b) (a .c) (a .d) (a .truncation) (k b) (total (c .before)) (p .0 .0, (p .0 .1, (p .1 .0 .0, (p .1 .0 .1, tt)))) refl (total-is (c .before))
+    let w = c .before .before in
+    let g = r w in
+    rw (hz w, cut (c .before)) at (c .flagged .ensures)
+    ∙ square (a g) (b g) (e g) (d g) (s g .args .truncation) (z w) (total w) (first w) (λ o. sums w ∙ total-is g o)
 
 pub square-word-spec : {M : Type 1} → statement M
 square-word-spec =
@@ -147,9 +148,9 @@ square-word-spec =
     (λ c κs. search needs)
     (λ c κs. search needs)
     (λ c κs. search needs)
-    total-of-requires
-    (λ c. search needs)
-    sub-flagged
+    (λ c κs. search needs)
+    (λ c κs. search needs)
+    (λ c κs. search needs)
     add-cut-off
     cut-off-requires
     flagged-requires
