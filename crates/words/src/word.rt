@@ -9,8 +9,8 @@ ghost use Rattle.settings.specs.Settings.{truncationInRange};
 ghost use Rattle.entries.specs.Mark.{marked};
 ghost use Rattle.words.specs.Word.{wordOf, cutBy};
 ghost use Rattle.words.specs.Requires.{readable};
-use entries::wrapping_add;
 use entries::MARK;
+use entries::wrapping_add;
 
 // An entry and 2^30, modulo 2^32: a sum is then above 0, and a mark below it, of two marks the earlier one lower. The total of four is left as it was.
 fn raised(entry: i32) -> i32

@@ -1,52 +1,52 @@
--- `entries::all_possible` meets its contract: the answer is that nothing bad was seen, and what is left.
-use mathlib.Core.Path.{_≡_, sym, _∙_}
-use mathlib.Core.Bool.{not, _&&_}
-use Prim.Native.Nat.{_≤_, _-_}
-use native.Mathlib.Omega.{arith}
+-- `entries::all_possible` meets its contract: four quarters, and what is left over.
+use mathlib.Core.Path.{_≡_, sym}
+use Prim.Native.Nat.{_+_, _-_, _/_}
+use native.Mathlib.Nat.{add-sub-cancel-left, sub-zero}
 use borrow.Author.Needs.{needs}
-use lib.ListN.{length, drop, getD}
-use lib.IntN.{pos}
+use lib.ListN.{length, take, drop}
 use denote.Ref.{now}
-use mir.Syntax.{w32}
 use Rattle.laws.specs.Lists.{every}
-use Rattle.laws.proofs.Ints.{back}
-use Rattle.laws.proofs.Tests.{not-or-not}
-use Rattle.laws.proofs.Every.{every-flag, every-done}
-use Rattle.entries.specs.Possible.{possibleAfter}
+use Rattle.entries.specs.Possible.{possible}
+use Rattle.entries.proofs.Quarters.{Four, quarters, the-rest}
 use Rattle.entries.proofs.all_possible.Statement.{statement}
 use Rattle.entries.proofs.all_possible.Tie as tie
 
-abbrev Inv-loop : tie.InvT-loop
-Inv-loop sums k bad₀ i₀ bad i = (i ≤ length sums) × (every (possibleAfter k) sums ≡ (not bad && every (possibleAfter k) (drop i sums)))
-
-abbrev μ-loop : tie.MeasureT-loop
-μ-loop sums k bad₀ i₀ bad i = length sums - i
-
-loop-again : tie.Need-loop-again Inv-loop μ-loop
-loop-again c =
-    let l = c .before .before .before in
-    let a = l .before .args in
-    let here = getD (now (a .sums)) (l .loop .i) (pos 0) in
-    let told = simp (back w32 here (c .before .is-possible-arg .given)) at (c .is-possible .ensures) in
-    (omega arith, l .loop .inv .1 ∙ every-flag (possibleAfter (a .k)) (now (a .sums)) (l .loop .i) (pos 0) (omega arith) (not (l .loop .bad)) (c .is-possible .result) told ∙ rw (not-or-not (l .loop .bad) (c .is-possible .result)))
-
-returns : tie.Need-returns Inv-loop μ-loop
+returns : tie.Need-returns
 returns c =
-    let l = c .before in
-    let a = l .before .args in
-    sym (l .loop .inv .1 ∙ every-done (possibleAfter (a .k)) (now (a .sums)) (l .loop .i) (omega arith) (not (l .loop .bad)))
+    let s = c .before .before .before .before .before .before .before in
+    let l = now (s .args .sums) in
+    let n = length l / 4 in
+    let f = possible (s .args .k) in
+    let most : c .before .before .four-possible .result ≡ Four f (take (n - 0) l) (take (n + n - n) (drop n l)) (take (n + n + n - (n + n)) (drop (n + n) l)) (take (n + n + n + n - (n + n + n)) (drop (n + n + n) l)) = c .before .before .four-possible .ensures in
+    let rest : c .each-possible .result ≡ every f (take (length l - (n + n + n + n)) (drop (n + n + n + n) l)) = c .each-possible .ensures in
+    rw (simp (add-sub-cancel-left, sub-zero) at most, simp (the-rest) at rest) (sym (quarters f n l))
 
 pub all-possible-spec : {M : Type 1} → statement M
 all-possible-spec =
     tie.close
     (tie.spec
-    Inv-loop
-    μ-loop
+    (λ c. search needs)
+    (λ c. search needs)
+    (λ c. search needs)
+    (λ c. search needs)
+    (λ c. search needs)
+    (λ c. search needs)
+    (λ c. search needs)
+    (λ c. search needs)
+    (λ c. search needs)
+    (λ c. search needs)
+    (λ c. search needs)
+    (λ c. search needs)
+    (λ c. search needs)
+    (λ c. search needs)
+    (λ c. search needs)
     (λ c. search needs)
     (λ c. search needs)
     (λ c. search needs)
     (λ c κs. search needs)
     (λ c. search needs)
     (λ c. search needs)
-    loop-again
+    (λ c. search needs)
+    (λ c. search needs)
+    (λ c κs. search needs)
     returns)
