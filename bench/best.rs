@@ -20,16 +20,26 @@ fn possible(entry: i32, k: i32) -> bool {
     (entry >= 128 - span) & (entry <= 128 + span) | (entry > MARK) & (entry <= MARK + k)
 }
 
-/// Whether each entry is possible. With the mark of sample k moved down onto the highest sum one range holds sums and marks; the sign of a difference
-/// tells where an entry lies outside it.
+/// Whether each entry is possible. With the mark of sample k moved down onto the highest sum one range holds sums and marks; with the lowest sum moved
+/// to the lowest number one test tells the range. Four quarters go at once, which keeps the memory busy.
 fn all_possible(sums: &[i32], k: usize) -> bool {
-    let (low, high) = (128 - MAX_PRODUCT * k as i32, 128 + MAX_PRODUCT * k as i32);
-    let gap = MARK + k as i32 - high;
-    let outside = sums.iter().fold(0, |signs, &entry| {
+    let span = MAX_PRODUCT * k as i32;
+    let gap = MARK + k as i32 - (128 + span);
+    let lowest = i32::MIN.wrapping_add(span - 128);
+    let outside = |entry: i32| {
         let moved = if entry > MARK { entry - gap } else { entry };
-        signs | moved.wrapping_sub(low) | high.wrapping_sub(moved)
-    });
-    outside >= 0
+        moved.wrapping_add(lowest) > i32::MIN + 2 * span
+    };
+    let quarter = sums.len() / 4;
+    let (a, rest) = sums.split_at(quarter);
+    let (b, rest) = rest.split_at(quarter);
+    let (c, rest) = rest.split_at(quarter);
+    let (d, rest) = rest.split_at(quarter);
+    let mut bad = false;
+    for i in 0..quarter {
+        bad |= outside(a[i]) | outside(b[i]) | outside(c[i]) | outside(d[i]);
+    }
+    !rest.iter().fold(bad, |bad, &entry| bad | outside(entry))
 }
 
 /// 14 for the entries from a place on, which have had k samples.
@@ -116,14 +126,16 @@ fn pixel_words(sums: &[i32], words: &mut [u16], r: u32) {
     }
 }
 
-/// A row of squares: the upper and the lower row of its pixels. With the last four bits turned over, the earliest mark is the largest.
+/// A row of squares: the upper and the lower row of its pixels. With 2^30 added a mark is negative and the earliest one the smallest; four times 2^30
+/// don't show in the total.
 fn square_words(upper: &[i32], lower: &[i32], words: &mut [u16], r: u32) {
     let (upper, lower) = (upper.as_chunks::<2>().0, lower.as_chunks::<2>().0);
     for ((word, &[a, b]), &[c, d]) in words.iter_mut().zip(upper).zip(lower) {
-        let first = (a ^ 15).max(b ^ 15).max((c ^ 15).max(d ^ 15));
+        let [a, b, c, d] = [a, b, c, d].map(|entry| entry.wrapping_add(MARK));
+        let first = a.min(b).min(c.min(d));
         let total = a.wrapping_add(b).wrapping_add(c.wrapping_add(d));
-        let flag = 32_767 ^ (first & 15);
-        *word = (if first > MARK {
+        let flag = 32_752 + (first & 15);
+        *word = (if first < 0 {
             flag
         } else {
             cut_off(total, r + 2)

@@ -4,7 +4,7 @@
 --     four-done            at the end
 --     the-rest             what is left of a list, as a part
 --     quarters             a list is four parts of one length, and what is left over
-use mathlib.Core.Path.{_≡_, refl, sym, _∙_}
+use mathlib.Core.Path.{_≡_, refl, sym}
 use mathlib.Core.Bool.{Bool, true, false, _&&_}
 use mathlib.Core.List.{List, [], _∷_}
 use Prim.Native.Nat.{ℕ, zero, suc, _+_, _-_, _<_, _≤_}

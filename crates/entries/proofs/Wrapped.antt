@@ -1,30 +1,15 @@
--- A sum modulo 2^32, as `wrapping_add` has it.
---     wrapped, by-wrap     the number, and what it is by where the sum lies
---     lowest, one-test     with the lowest number of a range moved to −2^31, one test tells the range
+-- With the lowest number of a range moved to −2^31, modulo 2^32, one test tells the range.
 use Prim.Native.Nat.{ℕ, _+_, _*_, _≤_, _<_}
-use mathlib.Core.Bool.{true, false, cond, _&&_}
+use mathlib.Core.Bool.{_&&_}
 use mathlib.Core.Logic.{_⊎_, inl, inr, ⊎-elim}
 use mathlib.Core.Path.{_≡_, sym, _∙_}
 use native.Mathlib.Omega.{arith}
 use lib.IntN.{ℤ, pos, negℤ, _+ℤ_, _-ℤ_}
 use lib.Signed.{leZ}
 use Rattle.laws.proofs.Tests.{cases}
+use Rattle.numbers.specs.Wrapped.{wrapped}
+use Rattle.numbers.proofs.Wraps.{by-wrap}
 use Rattle.laws.proofs.Ints.{up, dn, sum, neg-up, neg-dn, is-le, not-le, signed}
-
-abbrev pub wrapped : ℤ → ℤ
-wrapped z = cond (leZ (pos 2147483648) z) (z -ℤ pos 4294967296) (cond (leZ (negℤ (pos 2147483648)) z) z (z +ℤ pos 4294967296))
-
-pub by-wrap : {A : Type 0} (z : ℤ)
-    → (dn z + 2147483648 ≤ up z → up (wrapped z) + dn z + 4294967296 ≡ dn (wrapped z) + up z → A)
-    → (up z < dn z + 2147483648 → dn z ≤ up z + 2147483648 → wrapped z ≡ z → A)
-    → (up z + 2147483648 < dn z → up (wrapped z) + dn z ≡ dn (wrapped z) + up z + 4294967296 → A)
-    → A
-by-wrap z f g h =
-    cases (leZ (pos 2147483648) z)
-    (λ t. f (omega signed) (rw t (omega (arith, sum z (negℤ (pos 4294967296))))))
-    (λ t. cases (leZ (negℤ (pos 2147483648)) z)
-    (λ u. g (omega signed) (omega signed) (rw (t, u)))
-    (λ u. h (omega signed) (rw (t, u) (omega (arith, sum z (pos 4294967296))))))
 
 module _ (s : ℕ) (small : s ≤ 2211705) where
   -- b moves 128 − s to −2^31

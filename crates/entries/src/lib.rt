@@ -2,14 +2,15 @@
 ghost use mathlib.Core.Path.{_≡_};
 ghost use mathlib.Core.Bool.{not, cond, _&&_};
 ghost use Prim.Native.Nat.{_≤_};
-ghost use lib.IntN.{pos, negℤ, _+ℤ_, _-ℤ_};
+ghost use lib.IntN.{pos, _-ℤ_};
 ghost use lib.ListN.{length, getD};
-ghost use lib.Signed.{_≤ℤ_, leZ};
+ghost use lib.Signed.{_≤ℤ_};
 ghost use Rattle.laws.specs.Lists.{every};
 ghost use Rattle.checks.specs.Search.{firstPlace};
 ghost use Rattle.entries.specs.Mark.{marked};
 ghost use Rattle.entries.specs.Possible.{readingInRange, possibleAfter};
 use checks::Found;
+use numbers::wrapping_add;
 
 // The mark of sample n is this and n more.
 pub const MARK: i32 = 1073741824;
@@ -18,20 +19,6 @@ pub const MAX_READING: u16 = 16383;
 
 // The largest weight times the largest reading.
 const MAX_PRODUCT: i32 = 245745;
-
-// The sum modulo 2^32. All three ends are one machine addition.
-pub fn wrapping_add(a: i32, b: i32) -> i32
-    ensures { λ r. ⌜ r ≡ cond (leZ (pos 2147483648) (a +ℤ b)) (a +ℤ b -ℤ pos 4294967296) (cond (leZ (negℤ (pos 2147483648)) (a +ℤ b)) (a +ℤ b) (a +ℤ b +ℤ pos 4294967296)) ⌝ }
-{
-    let sum = a as i64 + b as i64;
-    if sum >= 2147483648 {
-        (sum - 4294967296) as i32
-    } else if sum >= -2147483648 {
-        sum as i32
-    } else {
-        (sum + 4294967296) as i32
-    }
-}
 
 // A mark moved down by a gap; a sum stays.
 fn lowered(entry: i32, gap: i32) -> i32
@@ -72,7 +59,7 @@ fn each_possible(sums: &[i32], k: usize) -> bool
 fn four_possible(a: &[i32], b: &[i32], c: &[i32], d: &[i32], k: usize) -> bool
     requires { ⌜ k ≤ 9 ⌝ }
     requires { ⌜ (length (now b) ≡ length (now a)) × (length (now c) ≡ length (now a)) × (length (now d) ≡ length (now a)) ⌝ }
-    ensures { λ r. ⌜ r ≡ (every (possible k) (now (a .entry)) && every (possible k) (now (b .entry)) && (every (possible k) (now (c .entry)) && every (possible k) (now (d .entry)))) ⌝ }
+    ensures { λ r. ⌜ r ≡ (every (possibleAfter k) (now (a .entry)) && every (possibleAfter k) (now (b .entry)) && (every (possibleAfter k) (now (c .entry)) && every (possibleAfter k) (now (d .entry)))) ⌝ }
 {
     let mut bad = false;
     let mut i = 0;
@@ -88,7 +75,7 @@ fn four_possible(a: &[i32], b: &[i32], c: &[i32], d: &[i32], k: usize) -> bool
 // The same of all entries, by quarters and what is left over.
 fn all_possible(sums: &[i32], k: usize) -> bool
     requires { ⌜ k ≤ 9 ⌝ }
-    ensures { λ r. ⌜ r ≡ every (possible k) (now (sums .entry)) ⌝ }
+    ensures { λ r. ⌜ r ≡ every (possibleAfter k) (now (sums .entry)) ⌝ }
 {
     let one = sums.len() / 4;
     let two = one + one;

@@ -9,7 +9,6 @@ use native.Mathlib.Omega.{arith}
 use lib.Dec.{T, ltb, leb, eqb}
 use lib.Ieee.{binary64, inUnsigned, inFloat}
 use lib.Ieee.Back.{unsigned-back}
-use lib.IntN.{pos}
 use lib.Pow.{pow-mono}
 use Rattle.laws.proofs.Tests.{cases, and-true}
 use Rattle.settings.specs.Settings.{truncationInRange}

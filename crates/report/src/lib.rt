@@ -1,10 +1,9 @@
 // The text of a job, in a buffer that the caller lends.
 ghost use mathlib.Core.Path.{_≡_};
-ghost use Prim.Native.Nat.{ℕ, _≤_, _<_};
+ghost use Prim.Native.Nat.{_≤_};
 ghost use lib.ListN.{length, take};
 ghost use Rattle.io.specs.Counts.{Counts};
 ghost use Rattle.checks.specs.declared.Answer.the-variants.{Taken};
-ghost use Rattle.job.specs.Job.{Result};
 ghost use Rattle.report.specs.Text.{answerText, textOf};
 ghost use Rattle.report.specs.Requires.{room, Fits};
 use crate::line::put_lines;

@@ -3,7 +3,7 @@
 --     raise, entry-raised        a raised entry, and what is known of it
 --     lower                      what is known of the smaller of two
 --     Up, sum-raised, whole      a sum, and the total of four
-use Prim.Native.Nat.{ℕ, _+_, _≤_, min}
+use Prim.Native.Nat.{ℕ, _+_, _≤_}
 use mathlib.Core.Bool.{true, cond}
 use mathlib.Core.Logic.{_⊎_, inl, inr}
 use mathlib.Core.Option.{Option, none, some}
@@ -15,17 +15,19 @@ use Rattle.laws.proofs.Ints.{up, dn, sum, same, is-le, not-le, signed}
 use Rattle.laws.proofs.Tests.{cases}
 use Rattle.entries.specs.Mark.{mark, marked, sampleOf}
 use Rattle.entries.proofs.Marks.{is-marked, sample-is, sample-none}
-use Rattle.entries.proofs.Wrapped.{wrapped, by-wrap}
+use Rattle.numbers.specs.Wrapped.{wrapped}
+use Rattle.numbers.proofs.Wraps.{by-wrap}
 use Rattle.words.specs.Word.{smaller}
-use Rattle.words.specs.Requires.{readable}
-use Rattle.words.proofs.Entries.{Small, by-kind, no-sample}
+use Rattle.entries.specs.Range.{entryInRange}
+use Rattle.entries.proofs.Range.{Small, by-kind}
+use Rattle.words.proofs.Entries.{no-sample}
 
 abbrev pub Raised : Option ℕ → ℤ → Type 0
 Raised none z = dn z ≤ up z
 Raised (some n) z = (n ≤ 9) × (up z + 2147483648 ≡ dn z + n)
 
 -- as a machine's sum
-pub raise : (e : ℤ) → readable e ≡ true → wrapped (e +ℤ pos 1073741824) ≡ cond (marked e) (e -ℤ pos 3221225472) (e +ℤ pos 1073741824)
+pub raise : (e : ℤ) → entryInRange e ≡ true → wrapped (e +ℤ pos 1073741824) ≡ cond (marked e) (e -ℤ pos 3221225472) (e +ℤ pos 1073741824)
 raise e h =
     by-kind e h
     (λ n l m q. rw (q, is-marked n l, is-le (pos 2147483648) (mark n +ℤ pos 1073741824) (omega arith))
@@ -33,7 +35,7 @@ raise e h =
     (λ u s. let t = sum e (pos 1073741824) in
     rw (u, not-le (pos 2147483648) (e +ℤ pos 1073741824) (omega signed), is-le (negℤ (pos 2147483648)) (e +ℤ pos 1073741824) (omega signed)))
 
-pub entry-raised : (e z : ℤ) → readable e ≡ true → z ≡ cond (marked e) (e -ℤ pos 3221225472) (e +ℤ pos 1073741824) → Raised (sampleOf e) z
+pub entry-raised : (e z : ℤ) → entryInRange e ≡ true → z ≡ cond (marked e) (e -ℤ pos 3221225472) (e +ℤ pos 1073741824) → Raised (sampleOf e) z
 entry-raised e z h told =
     by-kind e h
     (λ n l m q. let f = rw (q, is-marked n l) at told in rw (q, sample-is n l) (m, rw f (omega (arith, sum (mark n) (negℤ (pos 3221225472))))))
@@ -83,7 +85,7 @@ halves x y v w a b (inr f) (inr g) =
 abbrev pub Up : ℤ → ℤ → Type 0
 Up e z = Small e × (z ≡ e +ℤ pos 1073741824)
 
-pub sum-raised : (e z : ℤ) → readable e ≡ true → z ≡ cond (marked e) (e -ℤ pos 3221225472) (e +ℤ pos 1073741824) → sampleOf e ≡ none → Up e z
+pub sum-raised : (e z : ℤ) → entryInRange e ≡ true → z ≡ cond (marked e) (e -ℤ pos 3221225472) (e +ℤ pos 1073741824) → sampleOf e ≡ none → Up e z
 sum-raised e z h told o = let n = no-sample e h o in (n .1, rw (n .0) at told)
 
 pub whole : (a b c d p q s t : ℤ) → Up a p → Up b q → Up c s → Up d t

@@ -1,38 +1,30 @@
 -- A word, from a sample or a total.
---     in-range                   an r in range is 1 to 3
 --     kept                       a sample is left as it is by the mask
 --     cutWord, cut-lt            the word of a total
---     masked                     as the code takes it
 --     pixel, square              what the code computes is the word
-use Prim.Native.Nat.{ℕ, suc, _+_, _-_, _*_, _/_, _%_, _^_, _≤_, _<_, min}
+use Prim.Native.Nat.{ℕ, suc, _+_, _-_, _*_, _/_, _%_, _^_, _≤_, _<_}
 use mathlib.Core.Bool.{Bool, true, false, cond}
 use mathlib.Core.List.{List, [], _∷_}
 use mathlib.Core.Option.{Option, none, some}
 use mathlib.Core.Path.{_≡_, refl, ap, _∙_}
 use native.Mathlib.Nat.{mod-eq-of-lt, one-mul, mul-comm}
 use native.Mathlib.Omega.{arith}
-use borrow.Author.Tests.{leb-true, le-ltb}
-use lib.Bits.{bitAnd, bitOr, and-mask, or-zero-r, or-add-and}
-use lib.Dec.{leb}
+use borrow.Author.Tests.{le-ltb}
+use lib.Bits.{bitAnd, and-mask}
 use lib.IntN.{ℤ, pos, negsuc, _+ℤ_, _-ℤ_, natAbs, +ℤ-idr, +ℤ-assoc}
 use lib.ListN.{length}
 use lib.Pow.{pow-add}
-use lib.Signed.{ltZ, _≤ℤ_, shrZ}
+use lib.Signed.{ltZ, _≤ℤ_}
 use mir.Syntax.{w32}
-use mir.Val.{SFits, toZ, ofZ}
+use mir.Val.{toZ, ofZ}
 use mir.Facts.{toZ-pos}
 use Rattle.laws.specs.Lists.{total}
 use Rattle.laws.proofs.Ints.{signed}
 use Rattle.laws.proofs.Numbers.{less}
-use Rattle.laws.proofs.Tests.{and-true}
-use Rattle.settings.specs.Settings.{truncationInRange}
 use Rattle.entries.specs.Mark.{marked, sampleOf}
 use Rattle.entries.proofs.Marks.{is-marked, sample-is, sample-none, by-mark}
 use Rattle.words.specs.Word.{smaller, smallestMark, isNegative, cutBy, wordBy, wordOf}
 use Rattle.words.proofs.Raised.{Raised}
-
-pub in-range : (r : ℕ) → truncationInRange r ≡ true → (1 ≤ r) × (r ≤ 3)
-in-range r e = let t = and-true (leb 1 r) (leb r 3) e in (leb-true 1 r (t .0), leb-true r 3 (t .1))
 
 -- a sample
 pub kept : (z : ℤ) → (pos 0 ≤ℤ z) × (z ≤ℤ pos 15) → (bitAnd (natAbs z) 15 ≡ natAbs z) × (natAbs z ≤ 15)
@@ -49,19 +41,6 @@ cut-lt d z = either (ltZ z (pos 0)) (natAbs z / d)
     either : (t : Bool) (n : ℕ) → cond t 32767 (n % 32768) < 32768
     either true n = omega arith
     either false n = omega arith
-
--- all 32 bits set
-ones : (a : ℕ) → a < 2 ^ 32 → bitOr a 4294967295 ≡ 4294967295
-ones a h = omega (arith, or-add-and a 4294967295, and-mask a 32 ∙ mod-eq-of-lt h)
-
--- as the code takes it
-pub masked : (z : ℤ) (s : ℕ) → SFits w32 z → bitAnd (bitOr (ofZ w32 (shrZ z (2 ^ s))) (ofZ w32 (shrZ z 2147483648))) 32767 ≡ cutWord (2 ^ s) z
-masked (pos n) s f =
-    let sign : n / 2147483648 ≡ 0 = omega (arith, f .sfits) in
-    rw (sign, or-zero-r, le-ltb n 0 (omega arith)) (and-mask (n / 2 ^ s) 15)
-masked (negsuc m) s f =
-    let sign : m / 2147483648 ≡ 0 = omega (arith, f .sfits) in
-    rw (sign, ones (4294967296 - suc (m / 2 ^ s)) (omega arith)) (and-mask 4294967295 15)
 
 pub pixel : (e : ℤ) (r : ℕ) → cond (marked e) (32752 + natAbs (e -ℤ pos 1073741824)) (cutWord (2 ^ r) e) ≡ wordOf r (e ∷ [])
 unfolding smallestMark isNegative total

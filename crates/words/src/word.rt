@@ -1,6 +1,6 @@
 // From the entry of a pixel, or the four of a square, to the word.
 ghost use mathlib.Core.Path.{_≡_};
-ghost use mathlib.Core.Bool.{true, false, cond};
+ghost use mathlib.Core.Bool.{true, cond};
 ghost use mathlib.Core.List.{[], _∷_};
 ghost use Prim.Native.Nat.{_+_, _^_, _<_, _≤_};
 ghost use lib.IntN.{pos, natAbs, _+ℤ_, _-ℤ_};
@@ -8,13 +8,13 @@ ghost use lib.Signed.{_≤ℤ_, leZ, ltZ};
 ghost use Rattle.settings.specs.Settings.{truncationInRange};
 ghost use Rattle.entries.specs.Mark.{marked};
 ghost use Rattle.words.specs.Word.{wordOf, cutBy};
-ghost use Rattle.words.specs.Requires.{readable};
+ghost use Rattle.entries.specs.Range.{entryInRange};
 use entries::MARK;
-use entries::wrapping_add;
+use numbers::wrapping_add;
 
 // An entry and 2^30, modulo 2^32: a sum is then above 0, and a mark below it, of two marks the earlier one lower. The total of four is left as it was.
 fn raised(entry: i32) -> i32
-    requires { ⌜ readable entry ≡ true ⌝ }
+    requires { ⌜ entryInRange entry ≡ true ⌝ }
     ensures { λ r. ⌜ r ≡ cond (marked entry) (entry -ℤ pos 3221225472) (entry +ℤ pos 1073741824) ⌝ }
 {
     wrapping_add(entry, MARK)
@@ -26,12 +26,16 @@ fn smaller(a: i32, b: i32) -> i32
     if a <= b { a } else { b }
 }
 
-// The sign is taken before anything is cut off: all bits of a negative total are set.
+// The sign is taken before anything is cut off.
 fn cut_off(total: i32, shift: u16) -> u32
     requires { ⌜ shift ≤ 5 ⌝ }
     ensures { λ r. ⌜ r ≡ cond (ltZ total (pos 0)) 32767 (cutBy (2 ^ shift) total) ⌝ }
 {
-    (((total >> shift) | (total >> 31)) & 32767) as u32
+    if total < 0 {
+        32767
+    } else {
+        (total as u32 >> shift) & 32767
+    }
 }
 
 // A mark's word, or the other. The mask leaves a sample as it is, and shows the compiler that both words have 15 bits.
@@ -50,7 +54,7 @@ fn flagged(marked: bool, sample: i32, word: u32) -> u16
 
 // The word of a pixel.
 pub(crate) fn pixel_word(entry: i32, truncation: u16) -> u16
-    requires { ⌜ readable entry ≡ true ⌝ }
+    requires { ⌜ entryInRange entry ≡ true ⌝ }
     requires { ⌜ truncationInRange truncation ≡ true ⌝ }
     ensures { λ r. ⌜ r ≡ wordOf truncation (entry ∷ []) ⌝ }
 {
@@ -59,8 +63,8 @@ pub(crate) fn pixel_word(entry: i32, truncation: u16) -> u16
 
 // The word of a square.
 pub(crate) fn square_word(a: i32, b: i32, c: i32, d: i32, truncation: u16) -> u16
-    requires { ⌜ (readable a ≡ true) × (readable b ≡ true) ⌝ }
-    requires { ⌜ (readable c ≡ true) × (readable d ≡ true) ⌝ }
+    requires { ⌜ (entryInRange a ≡ true) × (entryInRange b ≡ true) ⌝ }
+    requires { ⌜ (entryInRange c ≡ true) × (entryInRange d ≡ true) ⌝ }
     requires { ⌜ truncationInRange truncation ≡ true ⌝ }
     ensures { λ r. ⌜ r ≡ wordOf truncation (a ∷ b ∷ c ∷ d ∷ []) ⌝ }
 {

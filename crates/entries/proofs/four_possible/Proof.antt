@@ -10,14 +10,14 @@ use denote.Ref.{now}
 use mir.Syntax.{w32}
 use Rattle.laws.proofs.Ints.{back}
 use Rattle.laws.proofs.Tests.{not-or-not}
-use Rattle.entries.specs.Possible.{possible}
+use Rattle.entries.specs.Possible.{possibleAfter}
 use Rattle.entries.proofs.Quarters.{Four, four-flag, four-done}
 use Rattle.entries.proofs.four_possible.Statement.{statement}
 use Rattle.entries.proofs.four_possible.Tie as tie
 
 abbrev Inv-loop : tie.InvT-loop
 Inv-loop a b c d k bad₀ i₀ bad i =
-    (i ≤ length a) × (Four (possible k) a b c d ≡ (not bad && Four (possible k) (drop i a) (drop i b) (drop i c) (drop i d)))
+    (i ≤ length a) × (Four (possibleAfter k) a b c d ≡ (not bad && Four (possibleAfter k) (drop i a) (drop i b) (drop i c) (drop i d)))
 
 abbrev μ-loop : tie.MeasureT-loop
 μ-loop a b c d k bad₀ i₀ bad i = length a - i
@@ -41,7 +41,7 @@ loop-again c =
     let all = x .result && y .result && (u .result && v .result) in (
       omega arith,
       l .loop .inv .1
-          ∙ four-flag (possible (t .k)) (now (t .a)) (now (t .b)) (now (t .c)) (now (t .d)) i (pos 0) (omega arith) (omega arith) (omega arith) (omega arith) (not (l .loop .bad)) (x .result) (y .result) (u .result) (v .result) ex ey eu ev
+          ∙ four-flag (possibleAfter (t .k)) (now (t .a)) (now (t .b)) (now (t .c)) (now (t .d)) i (pos 0) (omega arith) (omega arith) (omega arith) (omega arith) (not (l .loop .bad)) (x .result) (y .result) (u .result) (v .result) ex ey eu ev
           ∙ rw (not-or-not (l .loop .bad) all),
     )
 
@@ -49,7 +49,7 @@ returns : tie.Need-returns Inv-loop μ-loop
 returns c =
     let l = c .before in
     let t = l .before .args in
-    sym (l .loop .inv .1 ∙ four-done (possible (t .k)) (now (t .a)) (now (t .b)) (now (t .c)) (now (t .d)) (l .loop .i) (omega arith) (omega arith) (omega arith) (omega arith) (not (l .loop .bad)))
+    sym (l .loop .inv .1 ∙ four-done (possibleAfter (t .k)) (now (t .a)) (now (t .b)) (now (t .c)) (now (t .d)) (l .loop .i) (omega arith) (omega arith) (omega arith) (omega arith) (not (l .loop .bad)))
 
 pub four-possible-spec : {M : Type 1} → statement M
 four-possible-spec =

@@ -1,11 +1,8 @@
 -- `report::line::put_field` meets its contract.
-use Prim.Native.Nat.{ℕ, _+_, _≤_}
-use mathlib.Core.List.{List, [], _∷_, _++_, append-assoc}
-use mathlib.Core.Path.{_≡_, ap, sym, subst, _∙_}
 use borrow.Author.Needs.{needs}
 use native.Mathlib.Omega.{arith}
 use denote.Ref.{now}
-use lib.ListN.{length, take}
+use lib.ListN.{take}
 use Rattle.report.specs.Text.{decimal, space}
 use Rattle.report.proofs.Appended.{more}
 use Rattle.report.proofs.line.put_field.Statement.{statement}

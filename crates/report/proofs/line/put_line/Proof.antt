@@ -1,14 +1,13 @@
 -- `report::line::put_line` meets its contract.
-use Prim.Native.Nat.{ℕ, _+_, _≤_}
-use mathlib.Core.List.{List, [], _∷_, _++_, append-assoc}
-use mathlib.Core.Path.{_≡_, ap, sym, subst, _∙_}
+use Prim.Native.Nat.{ℕ, _+_}
+use mathlib.Core.List.{List, _++_}
+use mathlib.Core.Path.{_≡_, ap, _∙_}
 use borrow.Author.Needs.{needs}
 use native.Mathlib.Omega.{arith}
 use denote.Ref.{now}
-use lib.ListN.{length, take}
+use lib.ListN.{take}
 use Rattle.meaning.specs.Meaning.{readWord}
 use Rattle.report.specs.Text.{fieldText, meaningText, newline}
-use Rattle.report.specs.Requires.{WholeLimits}
 use Rattle.report.proofs.Appended.{more, regrouped}
 use Rattle.report.proofs.Limits.{whole-limits}
 use Rattle.report.proofs.line.put_line.Statement.{statement}

@@ -1,12 +1,10 @@
 -- `report::line::put_meaning` meets its contract.
-use Prim.Native.Nat.{ℕ, _+_, _≤_}
-use mathlib.Core.List.{List, [], _∷_, _++_}
-use mathlib.Core.Path.{_≡_, subst}
+use mathlib.Core.Path.{subst}
 use borrow.Author.Needs.{needs}
 use native.Mathlib.Omega.{arith}
 use denote.Ref.{now}
-use lib.ListN.{length, take}
-use Rattle.report.specs.Text.{decimal, sat}
+use lib.ListN.{take}
+use Rattle.report.specs.Text.{sat}
 use Rattle.report.specs.Requires.{WholeLimits}
 use Rattle.report.proofs.Appended.{more}
 use Rattle.report.proofs.line.put_meaning.Statement.{statement}

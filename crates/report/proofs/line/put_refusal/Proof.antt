@@ -1,11 +1,8 @@
 -- `report::line::put_refusal` meets its contract.
-use Prim.Native.Nat.{ℕ, _+_, _≤_}
-use mathlib.Core.List.{List, [], _∷_, _++_}
-use mathlib.Core.Path.{_≡_, ap, _∙_}
 use borrow.Author.Needs.{needs}
 use native.Mathlib.Omega.{arith}
 use denote.Ref.{now}
-use lib.ListN.{length, take}
+use lib.ListN.{take}
 use Rattle.report.specs.Text.{decimal, refused}
 use Rattle.report.proofs.Appended.{more}
 use Rattle.report.proofs.line.put_refusal.Statement.{statement}

@@ -1,13 +1,12 @@
 -- `report::put::put` meets its contract.
-use Prim.Native.Nat.{ℕ, suc, _+_, _-_, _≤_, _<_}
-use mathlib.Core.List.{List, [], _∷_, _++_, append-assoc}
+use Prim.Native.Nat.{_+_, _-_, _≤_}
+use mathlib.Core.List.{_++_}
 use mathlib.Core.Path.{_≡_, refl, sym}
 use borrow.Author.Needs.{needs}
-use native.Mathlib.Numerals.{add-one}
 use native.Mathlib.Omega.{arith}
 use denote.Ref.{now}
-use lib.ListN.{length, take, getD, set, length-set}
-use lib.Seq.{take-suc, take-suc-set, take-all}
+use lib.ListN.{length, take, length-set}
+use lib.Seq.{take-all}
 use Rattle.report.proofs.Appended.{append-nil, one-more}
 use Rattle.report.proofs.put.put.Statement.{statement}
 use Rattle.report.proofs.put.put.Tie as tie

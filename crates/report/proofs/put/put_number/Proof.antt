@@ -1,11 +1,11 @@
 -- `report::put::put_number` meets its contract.
 use Prim.Native.Nat.{ℕ, _+_, _≤_}
 use mathlib.Core.List.{List, _++_}
-use mathlib.Core.Path.{_≡_, ap, _∙_}
+use mathlib.Core.Path.{ap, _∙_}
 use borrow.Author.Needs.{needs}
 use native.Mathlib.Omega.{arith}
 use denote.Ref.{now}
-use lib.ListN.{length, take}
+use lib.ListN.{take}
 use Rattle.report.proofs.Decimals.{is-decimal, few}
 use Rattle.report.proofs.put.put_number.Statement.{statement}
 use Rattle.report.proofs.put.put_number.Tie as tie

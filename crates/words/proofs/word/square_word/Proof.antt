@@ -1,9 +1,9 @@
 -- `words::word::square_word` meets its contract: the smallest raised entry has the smallest sample, and where none is marked the total is that of four sums.
 use mathlib.Core.Path.{_≡_, _∙_}
 use mathlib.Core.Bool.{cond}
-use mathlib.Core.List.{List, [], _∷_}
+use mathlib.Core.List.{[], _∷_}
 use mathlib.Core.Option.{none}
-use Prim.Native.Nat.{ℕ, _+_, _^_}
+use Prim.Native.Nat.{_+_, _^_}
 use native.Mathlib.Omega.{arith}
 use borrow.Author.Needs.{needs}
 use lib.IntN.{ℤ, pos, _+ℤ_, _-ℤ_}
@@ -12,11 +12,12 @@ use mir.Val.{toZ, ofZ}
 use mir.Facts.{toZ-ofZ}
 use Rattle.laws.proofs.Ints.{back}
 use Rattle.entries.specs.Mark.{marked, sampleOf}
-use Rattle.entries.proofs.Wrapped.{wrapped}
+use Rattle.numbers.specs.Wrapped.{wrapped}
 use Rattle.words.specs.Word.{smaller, smallestMark}
 use Rattle.words.proofs.Entries.{none-both}
 use Rattle.words.proofs.Raised.{Raised, entry-raised, lower, sum-raised, whole}
-use Rattle.words.proofs.Words.{in-range, cutWord, cut-lt, by-pairs, last-range, square}
+use Rattle.settings.proofs.Parts.{truncation-parts}
+use Rattle.words.proofs.Words.{cutWord, cut-lt, by-pairs, last-range, square}
 use Rattle.words.proofs.word.square_word.Statement.{statement}
 use Rattle.words.proofs.word.square_word.Tie as tie
 
@@ -119,10 +120,10 @@ module _ (c : tie.After-wrapping-add3) where
       joined (x .result) (y .result) _ _ total (rw (back w32 (x .result) (x .ok), back w32 (y .result) (y .ok)) at (c .wrapping-add3 .ensures)) (rw (hp r, hq r) at (x .ensures)) (rw (hu r, ht r) at (y .ensures))
 
 add-cut-off : tie.Need-add-cut-off
-add-cut-off c = omega (arith, in-range (s (r c) .args .truncation) (s (r c) .pre .1 .1))
+add-cut-off c = omega (arith, truncation-parts (s (r c) .args .truncation) (s (r c) .pre .1 .1))
 
 cut-off-requires : tie.Need-cut-off-requires
-cut-off-requires c κs = omega (arith, in-range (s (r c) .args .truncation) (s (r c) .pre .1 .1))
+cut-off-requires c κs = omega (arith, truncation-parts (s (r c) .args .truncation) (s (r c) .pre .1 .1))
 
 cut : (c : tie.After-cut-off) → c .cut-off .result ≡ cutWord (2 ^ (s (r (c .before)) .args .truncation + 2)) (total (c .before))
 cut c = rw (back w32 (total (c .before)) (c .before .wrapping-add3 .ok)) at (c .cut-off .ensures)

@@ -1,4 +1,4 @@
--- `entries::wrapping_add` meets its contract: two numbers of 32 bits add up within 64, and each end fits 32.
+-- `numbers::wrapping_add` meets its contract: two numbers of 32 bits add up within 64, and each end fits 32.
 use mathlib.Core.Path.{_≡_}
 use mathlib.Core.Bool.{true, false}
 use lib.IntN.{ℤ, pos, negℤ, _+ℤ_, _-ℤ_}
@@ -7,8 +7,8 @@ use mir.Syntax.{w32, w64}
 use mir.Val.{SFits, toZ, ofZ}
 use mir.Facts.{toZ-ofZ}
 use Rattle.laws.proofs.Ints.{sum, fits, fitted, signed}
-use Rattle.entries.proofs.wrapping_add.Statement.{statement}
-use Rattle.entries.proofs.wrapping_add.Tie as tie
+use Rattle.numbers.proofs.wrapping_add.Statement.{statement}
+use Rattle.numbers.proofs.wrapping_add.Tie as tie
 
 wide : (z : ℤ) → SFits w32 z → SFits w64 (toZ w32 (ofZ w32 z))
 wide z f = rw (toZ-ofZ f) (fits w64 z (omega (signed, fitted w32 z f)))

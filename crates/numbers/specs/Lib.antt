@@ -1,0 +1,2 @@
+-- A sum modulo 2^32.
+pub mod Wrapped
