@@ -12,7 +12,16 @@ pub const PROGRAM: Program = Program {
 };
 
 fn all_in_range(readings: &[u16]) -> bool {
-    readings.iter().fold(0, |bits, x| bits | x) <= MAX_READING
+    let quarter = readings.len() / 4;
+    let (a, rest) = readings.split_at(quarter);
+    let (b, rest) = rest.split_at(quarter);
+    let (c, rest) = rest.split_at(quarter);
+    let (d, rest) = rest.split_at(quarter);
+    let mut bits = 0;
+    for i in 0..quarter {
+        bits |= a[i] | b[i] | c[i] | d[i];
+    }
+    rest.iter().fold(bits, |bits, x| bits | x) <= MAX_READING
 }
 
 fn possible(entry: i32, k: i32) -> bool {

@@ -20,7 +20,8 @@ use Rattle.checks.specs.Search.{firstPlace}
 use Rattle.checks.specs.Checks.{found, verdict}
 use Rattle.checks.proofs.Laws.{verdict-append, both-taken, when-taken, found-taken}
 use Rattle.checks.proofs.Search.{found-none, found-every}
-use Rattle.entries.specs.Possible.{readingInRange, possible}
+use Rattle.readings.specs.Readings.{readingInRange}
+use Rattle.entries.specs.Possible.{possible}
 use Rattle.entries.specs.Range.{entryInRange}
 use Rattle.entries.proofs.Range.{possible-in-range}
 use Rattle.written.specs.Written.{notPossibleAt}

@@ -8,7 +8,8 @@ use lib.ListN.{length, getD}
 use Rattle.checks.specs.declared.Answer.{Answer}
 use Rattle.checks.specs.Search.{firstPlace}
 use Rattle.checks.specs.Checks.{when, found, verdict, byAnswer}
-use Rattle.entries.specs.Possible.{readingInRange, possible}
+use Rattle.readings.specs.Readings.{readingInRange}
+use Rattle.entries.specs.Possible.{possible}
 use Rattle.ramp.specs.Feed.{sumsAfter}
 use Rattle.written.specs.Written.{notPossibleAt}
 use Rattle.board.specs.declared.Board.{Board}

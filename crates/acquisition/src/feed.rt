@@ -10,7 +10,7 @@ ghost use Rattle.acquisition.specs.Feed.{readingChecks, feedChecks, feed
 use board::Board;
 use board::Outcome;
 use checks::Answer;
-use entries::first_above;
+use readings::first_above;
 use written::first_not_possible;
 
 // 12, 13 and 14 of Feed.

@@ -1,20 +1,13 @@
--- The range of a reading, and which entries are *possible* after k samples.
+-- Which entries are *possible* after k samples.
 use Prim.Native.Nat.{ℕ, _*_}
 use mathlib.Core.Bool.{Bool, _&&_, _||_}
-use lib.Dec.{leb}
 use lib.IntN.{ℤ, pos, _+ℤ_, _-ℤ_}
 use lib.Signed.{leZ}
 use Rattle.settings.specs.declared.Settings.{Settings}
 use Rattle.settings.specs.Settings.{maxWeight}
 use Rattle.settings.specs.Covered.{pedestal}
+use Rattle.readings.specs.Readings.{maxReading}
 use Rattle.entries.specs.Mark.{mark}
-
--- the largest reading
-abbrev pub maxReading : ℕ
-maxReading = 16383
-
-abbrev pub readingInRange : ℕ → Bool
-readingInRange x = leb x maxReading
 
 -- the largest weight times the largest reading: 245,745
 abbrev pub maxProduct : ℕ

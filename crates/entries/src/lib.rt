@@ -8,14 +8,12 @@ ghost use lib.Signed.{_≤ℤ_};
 ghost use Rattle.laws.specs.Lists.{every};
 ghost use Rattle.checks.specs.Search.{firstPlace};
 ghost use Rattle.entries.specs.Mark.{marked};
-ghost use Rattle.entries.specs.Possible.{readingInRange, possibleAfter};
+ghost use Rattle.entries.specs.Possible.{possibleAfter};
 use checks::Found;
 use numbers::wrapping_add;
 
 // The mark of sample n is this and n more.
 pub const MARK: i32 = 1073741824;
-
-pub const MAX_READING: u16 = 16383;
 
 // The largest weight times the largest reading.
 const MAX_PRODUCT: i32 = 245745;
@@ -106,36 +104,6 @@ pub fn first_impossible(sums: &[i32], k: usize) -> Found
         } else {
             return Found::At(i);
         }
-    }
-    Found::Nothing
-}
-
-// Whether each reading is in range. The largest is 2^14 - 1, so the bits of all together are at most the largest exactly where each reading is.
-fn all_in_range(readings: &[u16]) -> bool
-    ensures { λ r. ⌜ r ≡ every readingInRange (now (readings .entry)) ⌝ }
-{
-    let mut bits: u16 = 0;
-    let mut i = 0;
-    while i < readings.len() {
-        bits = bits | readings[i];
-        i += 1;
-    }
-    bits <= MAX_READING
-}
-
-// The place of the first reading above the largest.
-pub fn first_above(readings: &[u16]) -> Found
-    ensures { λ r. ⌜ r ≡ firstPlace (length (now (readings .entry))) (λ i. not (readingInRange (getD (now (readings .entry)) i 0))) ⌝ }
-{
-    if all_in_range(readings) {
-        return Found::Nothing;
-    }
-    let mut i = 0;
-    while i < readings.len() {
-        if readings[i] > MAX_READING {
-            return Found::At(i);
-        }
-        i += 1;
     }
     Found::Nothing
 }

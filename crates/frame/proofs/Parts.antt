@@ -15,7 +15,7 @@ use Rattle.laws.proofs.Elements.{every-append}
 use Rattle.checks.specs.declared.Answer.the-variants.{Taken}
 use Rattle.checks.specs.Checks.{first, verdict}
 use Rattle.checks.proofs.Laws.{both-taken}
-use Rattle.entries.specs.Possible.{readingInRange}
+use Rattle.readings.specs.Readings.{readingInRange}
 use Rattle.step.specs.Step.{step}
 use Rattle.ramp.specs.Feed.{feedAll}
 use Rattle.ramp.proofs.Feeding.{feed-length, feed-append}

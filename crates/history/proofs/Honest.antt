@@ -17,7 +17,8 @@ use Rattle.checks.specs.Search.{firstPlace}
 use Rattle.checks.specs.Checks.{verdict}
 use Rattle.checks.proofs.Laws.{Spares, when-spares, found-spares, none-spares}
 use Rattle.checks.proofs.Search.{found-every}
-use Rattle.entries.specs.Possible.{readingInRange, possible}
+use Rattle.readings.specs.Readings.{readingInRange}
+use Rattle.entries.specs.Possible.{possible}
 use Rattle.written.specs.Written.{notPossibleAt}
 use Rattle.ramp.proofs.Agrees.{Agrees}
 use Rattle.ramp.proofs.Honest.{never-damaged, all-possible}

@@ -16,7 +16,7 @@ use Rattle.laws.proofs.Elements.{every-append}
 use Rattle.checks.specs.declared.Answer.{Answer}
 use Rattle.checks.specs.declared.Answer.the-variants.{Taken, Refused}
 use Rattle.checks.specs.Checks.{byAnswer}
-use Rattle.entries.specs.Possible.{readingInRange}
+use Rattle.readings.specs.Readings.{readingInRange}
 use Rattle.ramp.proofs.Agrees.{Agrees, agrees-none, agrees-all}
 use Rattle.board.specs.Board.{sound}
 use Rattle.board.specs.Open.{openOf}

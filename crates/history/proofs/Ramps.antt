@@ -17,7 +17,8 @@ use Rattle.laws.proofs.Each.{each-length}
 use Rattle.laws.proofs.Every.{every-at}
 use Rattle.checks.specs.declared.Answer.the-variants.{Taken}
 use Rattle.settings.specs.declared.Settings.{Settings}
-use Rattle.entries.specs.Possible.{readingInRange, possible}
+use Rattle.readings.specs.Readings.{readingInRange}
+use Rattle.entries.specs.Possible.{possible}
 use Rattle.entries.proofs.Range.{possible-in-range, range}
 use Rattle.step.specs.Step.{step}
 use Rattle.ramp.proofs.Feeding.{feed-length, feed-past}

@@ -23,7 +23,7 @@ use Rattle.update.specs.Update.{resulting, updateOf}
 use Rattle.update.proofs.Laws.{laws}
 use Rattle.checks.specs.declared.Answer.the-variants.{Taken}
 use Rattle.checks.specs.Checks.{verdict}
-use Rattle.entries.specs.Possible.{maxReading, readingInRange}
+use Rattle.readings.specs.Readings.{maxReading, readingInRange}
 use Rattle.board.specs.Board.{wanted}
 use Rattle.board.specs.Open.{openOf}
 use Rattle.history.specs.Calls.{Call, update, start, feed, readOut, Ledger, fresh, viewOf, refusal, effect, Allowed, anySums, afterTaken, Moment, moments}

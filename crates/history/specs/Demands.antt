@@ -15,7 +15,7 @@ use Rattle.settings.specs.Covered.{ceiling}
 use Rattle.checks.specs.declared.Answer.{Answer}
 use Rattle.checks.specs.declared.Answer.the-variants.{Taken, Refused}
 use Rattle.checks.specs.Checks.{byAnswer}
-use Rattle.entries.specs.Possible.{readingInRange}
+use Rattle.readings.specs.Readings.{readingInRange}
 use Rattle.ramp.specs.Feed.{sumsAfter}
 use Rattle.ramp.specs.Exact.{exactSum}
 use Rattle.meaning.specs.declared.WordRead.{WordRead}

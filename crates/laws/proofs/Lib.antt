@@ -8,3 +8,4 @@ pub mod Every
 pub mod Elements
 pub mod Over
 pub mod Parts
+pub mod Quarters

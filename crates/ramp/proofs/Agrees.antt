@@ -19,7 +19,8 @@ use Rattle.laws.specs.Lists.{every}
 use Rattle.laws.proofs.Every.{every-each}
 use Rattle.settings.specs.declared.Settings.{Settings}
 use Rattle.settings.proofs.Parts.{InRange}
-use Rattle.entries.specs.Possible.{readingInRange, possible}
+use Rattle.readings.specs.Readings.{readingInRange}
+use Rattle.entries.specs.Possible.{possible}
 use Rattle.step.specs.Step.{step}
 use Rattle.written.specs.Written.{samplesWritten}
 use Rattle.ramp.specs.Feed.{feedOne, feedAll}

@@ -19,7 +19,8 @@ use Rattle.settings.proofs.Parts.{InRange}
 use Rattle.checks.specs.declared.Found.the-variants.{Nothing}
 use Rattle.checks.specs.Search.{firstPlace}
 use Rattle.checks.proofs.Search.{nowhere}
-use Rattle.entries.specs.Possible.{readingInRange, possible}
+use Rattle.readings.specs.Readings.{readingInRange}
+use Rattle.entries.specs.Possible.{possible}
 use Rattle.written.specs.Written.{samplesWritten}
 use Rattle.written.specs.Written.{notPossibleAt}
 use Rattle.written.proofs.Places.{same-sample, next}

@@ -16,7 +16,8 @@ use Rattle.settings.specs.declared.Settings.{Settings}
 use Rattle.settings.specs.Settings.{weightAt}
 use Rattle.settings.proofs.Parts.{InRange}
 use Rattle.entries.specs.Mark.{mark, marked, sampleOf}
-use Rattle.entries.specs.Possible.{readingInRange, possible}
+use Rattle.readings.specs.Readings.{readingInRange}
+use Rattle.entries.specs.Possible.{possible}
 use Rattle.entries.proofs.Marks.{is-marked, sample-is, sample-none}
 use Rattle.step.specs.Step.{overIt, stepFrom, step}
 use Rattle.ramp.specs.Exact.{exactSum, firstOver, markedBy, entryAfter}

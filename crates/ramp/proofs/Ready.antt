@@ -13,7 +13,7 @@ use lib.ListN.{length, getD}
 use lib.Seq.{getD-set-same, getD-set-other}
 use Rattle.laws.specs.Lists.{every}
 use Rattle.laws.proofs.Tests.{and-true}
-use Rattle.entries.specs.Possible.{readingInRange}
+use Rattle.readings.specs.Readings.{readingInRange}
 use Rattle.ramp.specs.Feed.{feedOne, feedAll}
 use Rattle.written.proofs.Intervals.{Ready}
 use Rattle.written.proofs.Places.{same-sample, place, few}

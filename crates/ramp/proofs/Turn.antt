@@ -12,7 +12,8 @@ use Rattle.laws.proofs.Every.{every-all, every-take}
 use Rattle.laws.proofs.Parts.{part-length, part-at}
 use Rattle.settings.specs.declared.Settings.{Settings}
 use Rattle.settings.proofs.Parts.{in-range-parts}
-use Rattle.entries.specs.Possible.{readingInRange, possible}
+use Rattle.readings.specs.Readings.{readingInRange}
+use Rattle.entries.specs.Possible.{possible}
 use Rattle.entries.specs.Range.{entryInRange}
 use Rattle.entries.proofs.Range.{possible-in-range}
 use Rattle.step.specs.Step.{step}

@@ -10,7 +10,8 @@ use Rattle.settings.specs.declared.Settings.{Settings}
 use Rattle.settings.specs.Settings.{maxSamples, inRange}
 use Rattle.checks.specs.declared.Found.the-variants.{Nothing}
 use Rattle.checks.specs.Search.{firstPlace}
-use Rattle.entries.specs.Possible.{readingInRange, possible}
+use Rattle.readings.specs.Readings.{readingInRange}
+use Rattle.entries.specs.Possible.{possible}
 use Rattle.written.specs.Written.{notPossibleAt}
 
 pub record Feedable (s : Settings) (f : ℕ) (xs : List ℕ) (sums : List ℤ) : Type 0 where

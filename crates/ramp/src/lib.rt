@@ -6,7 +6,7 @@ ghost use lib.ListN.{length};
 ghost use Rattle.laws.specs.Lists.{every, over};
 ghost use Rattle.settings.specs.Settings.{weightInRange, thresholdInRange, maxSamples, inRange};
 ghost use Rattle.entries.specs.Mark.{mark};
-ghost use Rattle.entries.specs.Possible.{readingInRange};
+ghost use Rattle.readings.specs.Readings.{readingInRange};
 ghost use Rattle.entries.specs.Range.{entryInRange};
 ghost use Rattle.step.specs.Step.{isAbove, base, stepFrom, step};
 ghost use Rattle.ramp.specs.Feed.{sumsAfter};

@@ -15,7 +15,8 @@ use lib.Signed.{leZ, ltZ}
 use Rattle.laws.proofs.Tests.{clash, and-true}
 use Rattle.laws.proofs.Ints.{up, dn, neg-up, neg-dn, signed}
 use Rattle.settings.specs.Settings.{weightInRange}
-use Rattle.entries.specs.Possible.{maxReading, maxProduct, readingInRange}
+use Rattle.readings.specs.Readings.{maxReading, readingInRange}
+use Rattle.entries.specs.Possible.{maxProduct}
 
 pub magnitude-le : (w : ℤ) → weightInRange w ≡ true → natAbs w ≤ 15
 magnitude-le (pos a) p = leb-true a 15 p

@@ -13,7 +13,8 @@ use Rattle.settings.specs.declared.Settings.{Settings}
 use Rattle.settings.specs.Settings.{weightInRange, weightAt}
 use Rattle.settings.proofs.Parts.{InRange}
 use Rattle.entries.specs.Mark.{mark}
-use Rattle.entries.specs.Possible.{readingInRange, possibleAfter, possible}
+use Rattle.readings.specs.Readings.{readingInRange}
+use Rattle.entries.specs.Possible.{possibleAfter, possible}
 use Rattle.entries.specs.Range.{entryInRange}
 use Rattle.entries.proofs.Possible.{Mark, Near, fair, is-fair}
 use Rattle.step.specs.Step.{overIt, base, stepFrom, step}

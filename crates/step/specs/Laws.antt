@@ -5,7 +5,8 @@ use mathlib.Core.Path.{_≡_}
 use lib.IntN.{ℤ}
 use Rattle.settings.specs.declared.Settings.{Settings}
 use Rattle.settings.specs.Settings.{inRange}
-use Rattle.entries.specs.Possible.{readingInRange, possible}
+use Rattle.readings.specs.Readings.{readingInRange}
+use Rattle.entries.specs.Possible.{possible}
 use Rattle.step.specs.Step.{step}
 
 pub record StepLaws : Type 0 where

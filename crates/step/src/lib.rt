@@ -5,7 +5,7 @@ ghost use Prim.Native.Nat.{_≤_, _<_};
 ghost use lib.IntN.{pos, natAbs, _*ℤ_};
 ghost use Rattle.settings.specs.Settings.{weightInRange, thresholdInRange, maxSamples};
 ghost use Rattle.entries.specs.Mark.{mark};
-ghost use Rattle.entries.specs.Possible.{readingInRange};
+ghost use Rattle.readings.specs.Readings.{readingInRange};
 ghost use Rattle.entries.specs.Range.{entryInRange};
 ghost use Rattle.step.specs.Step as Def;
 ghost use Rattle.step.specs.Step.{isAbove, stepFrom};

@@ -7,7 +7,7 @@ use lib.ListN.{length, take, drop}
 use denote.Ref.{now}
 use Rattle.laws.specs.Lists.{every}
 use Rattle.entries.specs.Possible.{possibleAfter}
-use Rattle.entries.proofs.Quarters.{Four, quarters, the-rest}
+use Rattle.laws.proofs.Quarters.{Four, quarters, the-rest}
 use Rattle.entries.proofs.all_possible.Statement.{statement}
 use Rattle.entries.proofs.all_possible.Tie as tie
 

@@ -11,7 +11,7 @@ use mir.Syntax.{w32}
 use Rattle.laws.proofs.Ints.{back}
 use Rattle.laws.proofs.Tests.{not-or-not}
 use Rattle.entries.specs.Possible.{possibleAfter}
-use Rattle.entries.proofs.Quarters.{Four, four-flag, four-done}
+use Rattle.laws.proofs.Quarters.{Four, four-flag, four-done}
 use Rattle.entries.proofs.four_possible.Statement.{statement}
 use Rattle.entries.proofs.four_possible.Tie as tie
 

@@ -11,7 +11,7 @@ use lib.Seq.{take-all}
 use denote.Ref.{now}
 use Rattle.laws.proofs.Every.{every-take, every-drop}
 use Rattle.laws.proofs.Parts.{part-length}
-use Rattle.entries.specs.Possible.{readingInRange}
+use Rattle.readings.specs.Readings.{readingInRange}
 use Rattle.step.specs.Step.{step}
 use Rattle.ramp.specs.Feed.{feedAll}
 use Rattle.written.proofs.Places.{place, few}

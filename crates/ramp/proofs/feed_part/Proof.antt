@@ -15,7 +15,7 @@ use Rattle.laws.proofs.Ints.{back}
 use Rattle.laws.proofs.Every.{every-at}
 use Rattle.laws.proofs.Over.{over-at, over-more}
 use Rattle.entries.specs.Mark.{mark}
-use Rattle.entries.specs.Possible.{readingInRange}
+use Rattle.readings.specs.Readings.{readingInRange}
 use Rattle.entries.specs.Range.{entryInRange}
 use Rattle.step.specs.Step.{isAbove, base, stepFrom}
 use Rattle.ramp.proofs.feed_part.Statement.{statement}

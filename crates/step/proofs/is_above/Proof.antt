@@ -6,7 +6,7 @@ use mir.Syntax.{w16}
 use mir.Val.{SFits}
 use Rattle.laws.proofs.Ints.{toZ-nat}
 use Rattle.settings.specs.Settings.{maxThreshold}
-use Rattle.entries.specs.Possible.{maxReading}
+use Rattle.readings.specs.Readings.{maxReading}
 use Rattle.step.proofs.is_above.Statement.{statement}
 use Rattle.step.proofs.is_above.Tie as tie
 

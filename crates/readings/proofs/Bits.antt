@@ -7,7 +7,7 @@ use borrow.Author.Tests.{leb-true, leb-false, le-leb, lt-leb}
 use lib.Bits.{bitOr, or-lt, or-add-and, and-le-l, and-le-r}
 use lib.Dec.{leb}
 use Rattle.laws.proofs.Tests.{cases}
-use Rattle.entries.specs.Possible.{maxReading, readingInRange}
+use Rattle.readings.specs.Readings.{maxReading, readingInRange}
 
 above : (a b : ℕ) → (a ≤ bitOr a b) × (b ≤ bitOr a b)
 above a b = omega (arith, or-add-and a b, and-le-l a b, and-le-r a b)

@@ -1,4 +1,4 @@
--- `entries::first_above` meets its contract: nothing is found before i.
+-- `readings::first_above` meets its contract: nothing is found before i.
 use mathlib.Core.Path.{_≡_, sym, _∙_}
 use mathlib.Core.Bool.{Bool, not}
 use mathlib.Core.List.{List}
@@ -11,9 +11,9 @@ use denote.Ref.{now}
 use Rattle.checks.specs.declared.Found.the-variants.{Nothing}
 use Rattle.checks.specs.Search.{firstPlace}
 use Rattle.checks.proofs.Search.{found-first, found-more, found-every}
-use Rattle.entries.specs.Possible.{maxReading, readingInRange}
-use Rattle.entries.proofs.first_above.Statement.{statement}
-use Rattle.entries.proofs.first_above.Tie as tie
+use Rattle.readings.specs.Readings.{maxReading, readingInRange}
+use Rattle.readings.proofs.first_above.Statement.{statement}
+use Rattle.readings.proofs.first_above.Tie as tie
 
 abbrev outside : List ℕ → ℕ → Bool
 outside xs i = not (readingInRange (getD xs i 0))

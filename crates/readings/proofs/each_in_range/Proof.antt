@@ -1,4 +1,4 @@
--- `entries::all_in_range` meets its contract: the bits so far are in range, and so is what is left.
+-- `readings::each_in_range` meets its contract: the bits so far are in range, and so is what is left.
 use mathlib.Core.Path.{_≡_, refl, sym, _∙_}
 use mathlib.Core.Bool.{_&&_}
 use Prim.Native.Nat.{_≤_, _-_}
@@ -8,10 +8,10 @@ use lib.ListN.{length, drop, getD}
 use denote.Ref.{now}
 use Rattle.laws.specs.Lists.{every}
 use Rattle.laws.proofs.Every.{every-flag, every-done}
-use Rattle.entries.specs.Possible.{readingInRange}
-use Rattle.entries.proofs.Readings.{together}
-use Rattle.entries.proofs.all_in_range.Statement.{statement}
-use Rattle.entries.proofs.all_in_range.Tie as tie
+use Rattle.readings.specs.Readings.{readingInRange}
+use Rattle.readings.proofs.Bits.{together}
+use Rattle.readings.proofs.each_in_range.Statement.{statement}
+use Rattle.readings.proofs.each_in_range.Tie as tie
 
 abbrev Inv-loop : tie.InvT-loop
 Inv-loop readings bits₀ i₀ bits i =
@@ -32,8 +32,8 @@ returns c =
     let l = c .before in
     sym (l .loop .inv .1 ∙ every-done readingInRange (now (l .before .args .readings)) (l .loop .i) (omega arith) (readingInRange (l .loop .bits)))
 
-pub all-in-range-spec : {M : Type 1} → statement M
-all-in-range-spec =
+pub each-in-range-spec : {M : Type 1} → statement M
+each-in-range-spec =
     tie.close
     (tie.spec
     Inv-loop

@@ -1,0 +1,2 @@
+-- The range of a reading.
+pub mod Readings
