@@ -13,7 +13,7 @@ use Rattle.update.proofs.Laws as UpdateLaws
 use Rattle.checks.specs.declared.Refusal.{Refusal}
 use Rattle.checks.specs.declared.Answer.{Answer}
 use Rattle.checks.specs.declared.Answer.the-variants.{Taken, Refused}
-use Rattle.checks.specs.Checks.{refusal, when, verdict, byAnswer}
+use Rattle.checks.specs.Checks.{when, verdict, byAnswer}
 use Rattle.checks.proofs.Laws.{first-taken, both-taken, when-taken}
 use Rattle.board.specs.declared.Board.{Board}
 use Rattle.board.specs.Board.{sidesTaken, sound, unsound, opened, withWaiting, begun, ended}
@@ -21,7 +21,7 @@ use Rattle.board.specs.Open.{openOf}
 use Rattle.board.specs.Update.{updateChecks, updateOf}
 use Rattle.board.specs.Ramp.{startChecks, startOf, dropChecks, dropOf}
 use Rattle.board.specs.Covered.{coverageOf}
-use Rattle.board.specs.Laws.{SameSides, SameSettings, Gives99, BoardLaws}
+use Rattle.board.specs.Laws.{SameSides, SameSettings, Gives99, KnownSides, BoardLaws}
 use Rattle.board.proofs.Soundness.{Sound, sound-parts, sound-whole}
 
 -- ---- soundness
@@ -120,14 +120,7 @@ unsound-99 b s = record {
   covered = rw s;
 }
 
-known-sides : (openOf 1 1024 false .answer ≡ Taken)
-    × (openOf 1024 2 true .answer ≡ Taken)
-    × (openOf 0 1 false .answer ≡ Refused (refusal 1))
-    × (openOf 1 0 false .answer ≡ Refused (refusal 1))
-    × (openOf 1025 1 false .answer ≡ Refused (refusal 1))
-    × (openOf 1 1025 false .answer ≡ Refused (refusal 1))
-    × (openOf 3 2 true .answer ≡ Refused (refusal 1))
-    × (openOf 2 3 true .answer ≡ Refused (refusal 1))
+known-sides : KnownSides
 unfolding openOf verdict sidesTaken
 known-sides = (refl, refl, refl, refl, refl, refl, refl, refl)
 

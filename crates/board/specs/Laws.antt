@@ -40,19 +40,24 @@ pub record Gives99 (b : Board) : Type 0 where
   pub drop : dropOf b ≡ refused99 b
   pub covered : coverageOf b ≡ Coverage.Refused (refusal 99)
 
+-- sides of 1 and of 1,024 are taken; 0 and 1,025 are refused with 1, and an odd side of a binned board
+abbrev pub KnownSides : Type 0
+KnownSides =
+    (openOf 1 1024 false .answer ≡ Taken)
+    × (openOf 1024 2 true .answer ≡ Taken)
+    × (openOf 0 1 false .answer ≡ Refused (refusal 1))
+    × (openOf 1 0 false .answer ≡ Refused (refusal 1))
+    × (openOf 1025 1 false .answer ≡ Refused (refusal 1))
+    × (openOf 1 1025 false .answer ≡ Refused (refusal 1))
+    × (openOf 3 2 true .answer ≡ Refused (refusal 1))
+    × (openOf 2 3 true .answer ≡ Refused (refusal 1))
+
 pub record BoardLaws : Type 0 where
   -- a taken Open gives a sound board, a refused one a board that isn't
   pub opened-sound : (w h : ℕ) (binned : Bool) → openOf w h binned .answer ≡ Taken → sound (openOf w h binned .board) ≡ true
   pub refused-unsound : (w h : ℕ) (binned : Bool) (r : Refusal) → openOf w h binned .answer ≡ Refused r → sound (openOf w h binned .board) ≡ false
-  -- sides of 1 and of 1,024 are taken; 0 and 1,025 are refused with 1, and an odd side of a binned board
-  pub known-sides : (openOf 1 1024 false .answer ≡ Taken)
-      × (openOf 1024 2 true .answer ≡ Taken)
-      × (openOf 0 1 false .answer ≡ Refused (refusal 1))
-      × (openOf 1 0 false .answer ≡ Refused (refusal 1))
-      × (openOf 1025 1 false .answer ≡ Refused (refusal 1))
-      × (openOf 1 1025 false .answer ≡ Refused (refusal 1))
-      × (openOf 3 2 true .answer ≡ Refused (refusal 1))
-      × (openOf 2 3 true .answer ≡ Refused (refusal 1))
+  -- the ends of the range of a side
+  pub known-sides : KnownSides
   -- every operation keeps a sound board sound, and leaves any other as unsound as it was
   pub stays-sound : OfEach (λ old new. sound new ≡ sound old)
   -- a board that isn't sound gets 99 first

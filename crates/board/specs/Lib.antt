@@ -1,4 +1,4 @@
--- The board, what sound means, and every operation's checks and outcome.
+-- The board, what sound means, and the checks and the outcomes of Open, Update, Start, Drop and Covered.
 pub mod Board
 pub mod Open
 pub mod Update

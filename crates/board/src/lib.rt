@@ -4,8 +4,8 @@ use checks::Refusal;
 use settings::Settings;
 
 mod changes;
+mod operations;
 mod sound;
-mod without_sums;
 
 pub struct Board {
     pub width: usize,

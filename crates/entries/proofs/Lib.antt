@@ -1,4 +1,4 @@
--- The laws of entries and readings.
+-- The laws of entries.
 pub mod Marks
 pub mod Wrapped
 pub mod Possible

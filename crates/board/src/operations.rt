@@ -1,4 +1,4 @@
-// The operations that look at no sums: Open, Update, Start, Drop, Covered.
+// The operations that are lent no sums: Open, Update, Start, Drop, Covered.
 ghost use mathlib.Core.Path.{_≡_};
 ghost use Rattle.board.specs.Open.{openOf};
 ghost use Rattle.board.specs.Update.{updateOf};
