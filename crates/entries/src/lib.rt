@@ -53,7 +53,7 @@ fn each_possible(sums: &[i32], k: usize) -> bool
     !bad
 }
 
-// The same of four parts of one length at once: the memory answers four places sooner than one.
+// The same of four parts of one length at once, which takes less time than one place after the other.
 fn four_possible(a: &[i32], b: &[i32], c: &[i32], d: &[i32], k: usize) -> bool
     requires { ⌜ k ≤ 9 ⌝ }
     requires { ⌜ (length (now b) ≡ length (now a)) × (length (now c) ≡ length (now a)) × (length (now d) ≡ length (now a)) ⌝ }

@@ -22,7 +22,7 @@ fn each_in_range(readings: &[u16]) -> bool
     bits <= MAX_READING
 }
 
-// The same of four parts of one length at once: the memory answers four places sooner than one.
+// The same of four parts of one length at once, which takes less time than one place after the other.
 fn four_in_range(a: &[u16], b: &[u16], c: &[u16], d: &[u16]) -> bool
     requires { ⌜ (length (now b) ≡ length (now a)) × (length (now c) ≡ length (now a)) × (length (now d) ≡ length (now a)) ⌝ }
     ensures { λ r. ⌜ r ≡ (every readingInRange (now (a .entry)) && every readingInRange (now (b .entry)) && (every readingInRange (now (c .entry)) && every readingInRange (now (d .entry)))) ⌝ }
