@@ -85,14 +85,14 @@ pub fn check_feed(b: &Board, s: &Settings, fed: usize, readings: &[u16], sums: &
     Ok(())
 }
 
-/// Readings of sample n, onto the entries of their pixels. The size of a weight has four bits, so its products are 16-bit multiplies; the
-/// compiler makes a loop for each sign.
+/// Readings of sample n, onto the entries of their pixels. The size of a weight has eight bits at most and a reading fits a signed number of 16, so
+/// a product is one multiply-and-add of the machine's; the compiler makes a loop for each sign.
 pub fn sum_part(readings: &[u16], sums: &mut [i32], n: usize, weight: i32, threshold: u16) {
     let mark = MARK + n as i32;
-    let size = weight.unsigned_abs() as u16;
+    let size = weight.unsigned_abs() as u8;
     for (entry, &x) in sums.iter_mut().zip(readings) {
         let before = if n == 1 { 128 } else { *entry };
-        let product = (u32::from(size) * u32::from(x)) as i32;
+        let product = i32::from(size) * i32::from(x as i16);
         let sum = before.wrapping_add(if weight < 0 { -product } else { product });
         // Both are below 32,768, where a signed test is the cheaper one.
         let next = if x as i16 > threshold as i16 {

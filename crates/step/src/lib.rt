@@ -19,34 +19,42 @@ fn base(entry: i32, n: usize) -> i32
 }
 
 // The magnitude of a weight, without its sign.
-fn magnitude(weight: i32) -> u16
+fn magnitude(weight: i32) -> u8
     requires { ⌜ weightInRange weight ≡ true ⌝ }
     ensures { λ r. ⌜ r ≡ natAbs weight ⌝ }
 {
     if weight < 0 {
-        (-weight) as u16
+        (-weight) as u8
     } else {
-        weight as u16
+        weight as u8
     }
 }
 
-// weight * reading. The magnitude is multiplied and then takes the sign: a product of two 16-bit numbers is a cheap one.
+// A reading as a signed number of 16 bits, which are cheaper to multiply and to compare. It is far below 32,768.
+fn signed(reading: u16) -> i16
+    requires { ⌜ readingInRange reading ≡ true ⌝ }
+    ensures { λ r. ⌜ r ≡ pos reading ⌝ }
+{
+    reading as i16
+}
+
+// weight * reading. The magnitude is multiplied and then takes the sign, so that the compiler sees two small numbers and makes a loop for each sign.
 fn product(weight: i32, reading: u16) -> i32
     requires { ⌜ weightInRange weight ≡ true ⌝ }
     requires { ⌜ readingInRange reading ≡ true ⌝ }
     ensures { λ r. ⌜ r ≡ weight *ℤ pos reading ⌝ }
 {
-    let size = (magnitude(weight) as u32 * reading as u32) as i32;
+    let size = magnitude(weight) as i32 * signed(reading) as i32;
     if weight < 0 { -size } else { size }
 }
 
-// Whether a reading is above the threshold. Both are far below 32,768, where a signed test says the same and is the cheaper one.
+// Whether a reading is above the threshold, which is far below 32,768 too.
 fn is_above(reading: u16, threshold: u16) -> bool
     requires { ⌜ readingInRange reading ≡ true ⌝ }
     requires { ⌜ thresholdInRange threshold ≡ true ⌝ }
     ensures { λ r. ⌜ r ≡ isAbove threshold reading ⌝ }
 {
-    reading as i16 > threshold as i16
+    signed(reading) > threshold as i16
 }
 
 // One of two numbers, both at hand: no work hangs on the test.

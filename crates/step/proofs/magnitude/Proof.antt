@@ -4,7 +4,7 @@ use Prim.Native.Nat.{_≤_}
 use native.Mathlib.Omega.{arith}
 use borrow.Author.Needs.{needs}
 use lib.IntN.{pos, natAbs, _-ℤ_}
-use mir.Syntax.{w16, w32}
+use mir.Syntax.{w8, w32}
 use mir.Val.{Fits, SFits, toZ, ofZ}
 use mir.Facts.{toZ-ofZ}
 use Rattle.step.proofs.Products.{magnitude-le, flipped, kept}
@@ -18,7 +18,7 @@ module _ (c : tie.Start) where
   held : SFits w32 (pos (natAbs (c .args .weight)))
   held = record { sfits = omega (arith, small) }
 
-  short : Fits w16 (natAbs (c .args .weight))
+  short : Fits w8 (natAbs (c .args .weight))
   short = record { fits = omega (arith, small) }
 
 opposite : (c : tie.Then1) → pos 0 -ℤ toZ w32 (ofZ w32 (c .before .args .weight)) ≡ pos (natAbs (c .before .args .weight))
