@@ -1,20 +1,20 @@
 -- A word, from a sample or a total.
 --     kept                       a sample is left as it is by the mask
---     cutWord, cut-lt            the word of a total
+--     cutWord, cut-lt, cut-is    the word of a total
 --     pixel, square              what the code computes is the word
 use Prim.Native.Nat.{ℕ, suc, _+_, _-_, _*_, _/_, _%_, _^_, _≤_, _<_}
 use mathlib.Core.Bool.{Bool, true, false, cond}
 use mathlib.Core.List.{List, [], _∷_}
 use mathlib.Core.Option.{Option, none, some}
 use mathlib.Core.Path.{_≡_, refl, ap, _∙_}
-use native.Mathlib.Nat.{mod-eq-of-lt, one-mul, mul-comm}
+use native.Mathlib.Nat.{mod-eq-of-lt, mod-lt, lt-of-lt-of-le, one-mul, mul-comm}
 use native.Mathlib.Omega.{arith}
 use borrow.Author.Tests.{le-ltb}
-use lib.Bits.{bitAnd, and-mask}
+use lib.Bits.{bitAnd, bitOr, and-mask, and-comm, or-mod, or-add-and}
 use lib.IntN.{ℤ, pos, negsuc, _+ℤ_, _-ℤ_, natAbs, +ℤ-idr, +ℤ-assoc}
 use lib.ListN.{length}
-use lib.Pow.{pow-add}
-use lib.Signed.{ltZ, _≤ℤ_}
+use lib.Pow.{pow-add, pow-pos}
+use lib.Signed.{ltZ, _≤ℤ_, shrZ}
 use mir.Syntax.{w32}
 use mir.Val.{toZ, ofZ}
 use mir.Facts.{toZ-pos}
@@ -42,6 +42,28 @@ cut-lt d z = either (ltZ z (pos 0)) (natAbs z / d)
     either true n = omega arith
     either false n = omega arith
 
+-- the last k bits, as the code takes them
+masked : (x k : ℕ) → 2 ^ k ≤ 2147483648 → toZ w32 (bitAnd x (2 ^ k - 1)) ≡ pos (x % 2 ^ k)
+masked x k h = ap (toZ w32) (and-mask x k) ∙ toZ-pos w32 {n = x % 2 ^ k} (lt-of-lt-of-le (mod-lt x (pow-pos k)) h)
+
+-- ones throughout
+ones : (y : ℕ) → bitOr 4294967295 y % 32768 ≡ 32767
+ones y =
+    let b = y % 32768 in
+    let e = and-comm 32767 b ∙ and-mask b 15 ∙ mod-eq-of-lt (omega arith) in
+    or-mod 4294967295 y 15 ∙ rest (bitOr 32767 b) (bitAnd 32767 b) b (or-add-and 32767 b) e
+  where
+    rest : (o a b : ℕ) → o + a ≡ 32767 + b → a ≡ b → o ≡ 32767
+    rest o a b h e = omega arith
+
+cut-by-sign : (d : ℕ) (z : ℤ) → bitOr (cond (ltZ z (pos 0)) 4294967295 0) (ofZ w32 (shrZ z d)) % 32768 ≡ cutWord d z
+cut-by-sign d (pos n) = rw (le-ltb n 0 (omega arith))
+cut-by-sign d (negsuc n) = ones (ofZ w32 (negsuc (n / d)))
+
+pub cut-is : (d : ℕ) (z y : ℤ) (sign : ℕ) → y ≡ z → sign ≡ cond (ltZ z (pos 0)) 4294967295 0
+    → toZ w32 (bitAnd (bitOr sign (ofZ w32 (shrZ y d))) 32767) ≡ pos (cutWord d z)
+cut-is d z y sign e h = rw (e, h) (masked _ 15 (omega arith) ∙ ap pos (cut-by-sign d z))
+
 pub pixel : (e : ℤ) (r : ℕ) → cond (marked e) (32752 + natAbs (e -ℤ pos 1073741824)) (cutWord (2 ^ r) e) ≡ wordOf r (e ∷ [])
 unfolding smallestMark isNegative total
 pixel e r =
@@ -66,12 +88,12 @@ pub by-pairs : (a b c d : ℤ) → smaller (smaller (sampleOf a) (sampleOf b)) (
 unfolding smallestMark
 by-pairs a b c d = rw (smaller-none (sampleOf d)) (smaller-assoc (sampleOf a) (sampleOf b) (smaller (sampleOf c) (sampleOf d)))
 
--- the last four bits, as the code takes them
+-- the last four bits
 abbrev pub lastBits : ℤ → ℤ
 lastBits z = toZ w32 (bitAnd (ofZ w32 z) 15)
 
 last-is : (x : ℕ) → toZ w32 (bitAnd x 15) ≡ pos (x % 16)
-last-is x = ap (toZ w32) (and-mask x 4) ∙ toZ-pos w32 {n = x % 16} (omega arith)
+last-is x = masked x 4 (omega arith)
 
 pub last-range : (z : ℤ) → (pos 0 ≤ℤ lastBits z) × (lastBits z ≤ℤ pos 15)
 last-range z = rw (last-is (ofZ w32 z)) (omega signed, omega signed)

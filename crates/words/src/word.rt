@@ -26,16 +26,13 @@ fn smaller(a: i32, b: i32) -> i32
     if a <= b { a } else { b }
 }
 
-// The sign is taken before anything is cut off.
+// The sign is taken before anything is cut off: a negative total has ones throughout.
 fn cut_off(total: i32, shift: u16) -> u32
     requires { ⌜ shift ≤ 5 ⌝ }
     ensures { λ r. ⌜ r ≡ cond (ltZ total (pos 0)) 32767 (cutBy (2 ^ shift) total) ⌝ }
 {
-    if total < 0 {
-        32767
-    } else {
-        (total as u32 >> shift) & 32767
-    }
+    let sign = if total < 0 { -1 } else { 0 };
+    ((sign | total >> shift) & 32767) as u32
 }
 
 // A mark's word, or the other. The mask leaves a sample as it is, and shows the compiler that both words have 15 bits.
