@@ -29,9 +29,9 @@ fn possible(entry: i32, k: i32) -> bool {
     (entry >= 128 - span) & (entry <= 128 + span) | (entry > MARK) & (entry <= MARK + k)
 }
 
-/// Whether each entry is possible. With the mark of sample k moved down onto the highest sum one range holds sums and marks; with the lowest sum moved
-/// to the lowest number one test tells the range. Four quarters go at once, which keeps the memory busy.
-fn all_possible(sums: &[i32], k: usize) -> bool {
+/// Whether each entry is possible by one range. With the mark of sample k moved down onto the highest sum it holds sums and marks; with the lowest sum
+/// moved to the lowest number one test tells it.
+fn each_possible(sums: &[i32], k: usize) -> bool {
     let span = MAX_PRODUCT * k as i32;
     let gap = MARK + k as i32 - (128 + span);
     let lowest = i32::MIN.wrapping_add(span - 128);
@@ -39,22 +39,32 @@ fn all_possible(sums: &[i32], k: usize) -> bool {
         let moved = if entry > MARK { entry - gap } else { entry };
         moved.wrapping_add(lowest) > i32::MIN + 2 * span
     };
+    !sums.iter().fold(false, |bad, &entry| bad | outside(entry))
+}
+
+/// Whether each entry is surely possible: within a power of two of 0, or a mark. The bits of all together tell. Four quarters go at once, which keeps
+/// the memory busy.
+fn all_near(sums: &[i32], k: usize) -> bool {
+    let near = if k < 5 { 131_072 } else { 1_048_576 };
+    let gap = MARK + (k as i32 + 1) - near;
+    let moved = |entry: i32| near + if entry > MARK { entry - gap } else { entry };
     let quarter = sums.len() / 4;
     let (a, rest) = sums.split_at(quarter);
     let (b, rest) = rest.split_at(quarter);
     let (c, rest) = rest.split_at(quarter);
     let (d, rest) = rest.split_at(quarter);
-    let mut bad = false;
+    let mut bits = 0;
     for i in 0..quarter {
-        bad |= outside(a[i]) | outside(b[i]) | outside(c[i]) | outside(d[i]);
+        bits |= moved(a[i]) | moved(b[i]) | moved(c[i]) | moved(d[i]);
     }
-    !rest.iter().fold(bad, |bad, &entry| bad | outside(entry))
+    let bits = rest.iter().fold(bits, |bits, &entry| bits | moved(entry));
+    (0..2 * near).contains(&bits)
 }
 
 /// 14 for the entries from a place on, which have had k samples.
 fn check_entries(sums: &[i32], from: usize, to: usize, k: usize) -> Answer {
     let part = &sums[from..to];
-    if all_possible(part, k) {
+    if all_near(part, k) || each_possible(part, k) {
         return Ok(());
     }
     let at = part.iter().position(|&entry| !possible(entry, k as i32));

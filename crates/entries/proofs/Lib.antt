@@ -3,4 +3,5 @@ pub mod Marks
 pub mod Wrapped
 pub mod Possible
 pub mod Range
+pub mod Near
 pub mod Laws

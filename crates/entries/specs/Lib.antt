@@ -2,4 +2,5 @@
 pub mod Mark
 pub mod Possible
 pub mod Range
+pub mod Near
 pub mod Laws

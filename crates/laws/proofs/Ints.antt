@@ -1,7 +1,7 @@
 -- ℤ for `omega`: each integer z is read as the difference of two naturals, `up z - dn z`, of which one is 0. A sum, a test and a range of integers
 -- are then linear facts about `up` and `dn`, which `omega` reads as unknowns.
 --     sum, neg-up, neg-dn, times-up               the parts of a sum, a negation and a product with a natural
---     le-true .. lt-false                         what a test of order says; is-le, not-le the test's value from the fact
+--     le-true .. lt-false                         what a test of order says; is-le, not-le, is-lt the test's value from the fact
 --     signed                                      `omega`'s list with the tests of order: `omega signed`, `omega (signed, sum a b)`
 --     fits, fitted, whole                         from a range to `SFits`, and back; a number that isn't negative
 --     back, toZ-nat                               a number as the machine holds it
@@ -18,7 +18,7 @@ use mir.Syntax.{Width}
 use mir.Val.{Fits, SFits, bits, hbits, toZ, ofZ}
 use mir.Facts.{toZ-ofZ}
 use Rattle.laws.proofs.Tests.{clash, is-true}
-use borrow.Author.Tests.{ltb-true, ltb-false, leb-true, leb-false, le-leb, lt-leb}
+use borrow.Author.Tests.{ltb-true, ltb-false, leb-true, leb-false, le-leb, lt-leb, lt-ltb}
 
 abbrev pub up : ℤ → ℕ
 up (pos n) = n
@@ -95,6 +95,12 @@ not-le (pos a) (pos b) h = lt-leb a b (omega arith)
 not-le (pos a) (negsuc b) h = refl
 not-le (negsuc a) (pos b) h = absurd (omega arith)
 not-le (negsuc a) (negsuc b) h = lt-leb b a (omega arith)
+
+pub is-lt : (a b : ℤ) → up a + dn b < up b + dn a → ltZ a b ≡ true
+is-lt (pos a) (pos b) h = lt-ltb a b (omega arith)
+is-lt (pos a) (negsuc b) h = absurd (omega arith)
+is-lt (negsuc a) (pos b) h = refl
+is-lt (negsuc a) (negsuc b) h = lt-ltb b a (omega arith)
 
 -- as a rule in `omega`'s list, which reads a record by its field
 pub le-yes : (a b : ℤ) → T (leZ a b) → up a + dn b ≤ up b + dn a

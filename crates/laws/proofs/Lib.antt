@@ -2,6 +2,7 @@
 pub mod Tests
 pub mod Ints
 pub mod Numbers
+pub mod Bits
 pub mod Firsts
 pub mod Each
 pub mod Every

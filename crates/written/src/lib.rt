@@ -26,7 +26,7 @@ fn shifted(found: Found, start: usize) -> Found
 
 // The first from `start` to `end` that isn't possible for k.
 fn first_between(sums: &[i32], start: usize, end: usize, k: usize) -> Found
-    requires { ⌜ (start ≤ end) × (end ≤ length (now sums)) × (k ≤ 9) ⌝ }
+    requires { ⌜ (start ≤ end) × (end ≤ length (now sums)) × (1 ≤ k) × (k ≤ 9) ⌝ }
     ensures { λ r. ⌜ r ≡ Search.shifted start (firstPlace (end - start) (λ i. not (possibleAfter k (getD (now (sums .entry)) (start + i) (pos 0))))) ⌝ }
 {
     shifted(first_impossible(&sums[start..end], k), start)

@@ -29,7 +29,12 @@ abbrev μ-loop : tie.MeasureT-loop
 returns : tie.Need-returns Inv-loop μ-loop
 returns c =
     let a = c .before .before .args in
-    sym (found-every (possibleAfter (a .k)) (now (a .sums)) (pos 0) (sym (c .before .all-possible .ensures) ∙ c .if1 .taken))
+    sym (found-every (possibleAfter (a .k)) (now (a .sums)) (pos 0) (c .before .all-near .ensures (c .if1 .taken)))
+
+returns-2 : tie.Need-returns-2 Inv-loop μ-loop
+returns-2 c =
+    let a = c .before .before .before .before .args in
+    sym (found-every (possibleAfter (a .k)) (now (a .sums)) (pos 0) (sym (c .before .each-possible .ensures) ∙ c .if2 .taken))
 
 loop-holds : tie.Need-loop-holds Inv-loop μ-loop
 unfolding firstPlace
@@ -38,7 +43,7 @@ loop-holds c = search needs
 -- what the call says of the entry at i
 module _ (c : tie.After-is-possible Inv-loop μ-loop) where
   abbrev s : tie.Start Inv-loop μ-loop
-  s = c .before .before .before .before .before .before
+  s = c .before .before .before .before .before .before .before .before
 
   abbrev i : ℕ
   i = c .before .before .before .loop .i
@@ -50,18 +55,18 @@ loop-again : tie.Need-loop-again Inv-loop μ-loop
 loop-again c =
     let b = c .before in
     let a = s b .args in
-    (omega arith, found-more (impossible (a .k) (now (a .sums))) (i b) (b .before .before .before .loop .inv .1) (rw (← told b, c .if2 .taken)))
-
-returns-2 : tie.Need-returns-2 Inv-loop μ-loop
-returns-2 c =
-    let b = c .before in
-    let a = s b .args in
-    sym (found-first (impossible (a .k) (now (a .sums))) (i b) (length (now (a .sums))) (omega arith) (b .before .before .before .loop .inv .1) (rw (← told b, c .if2 .left)))
+    (omega arith, found-more (impossible (a .k) (now (a .sums))) (i b) (b .before .before .before .loop .inv .1) (rw (← told b, c .if3 .taken)))
 
 returns-3 : tie.Need-returns-3 Inv-loop μ-loop
 returns-3 c =
+    let b = c .before in
+    let a = s b .args in
+    sym (found-first (impossible (a .k) (now (a .sums))) (i b) (length (now (a .sums))) (omega arith) (b .before .before .before .loop .inv .1) (rw (← told b, c .if3 .left)))
+
+returns-4 : tie.Need-returns-4 Inv-loop μ-loop
+returns-4 c =
     let l = c .before .loop in
-    let n : l .i ≡ length (now (c .before .before .before .before .args .sums)) = omega arith in
+    let n : l .i ≡ length (now (c .before .before .before .before .before .before .args .sums)) = omega arith in
     rw (← n) (sym (l .inv .1))
 
 pub first-impossible-spec : {M : Type 1} → statement M
@@ -72,6 +77,8 @@ first-impossible-spec =
     μ-loop
     (λ c κs. search needs)
     returns
+    (λ c κs. search needs)
+    returns-2
     loop-holds
     (λ c. search needs)
     (λ c. search needs)
@@ -79,5 +86,5 @@ first-impossible-spec =
     (λ c. search needs)
     (λ c. search needs)
     loop-again
-    returns-2
-    returns-3)
+    returns-3
+    returns-4)

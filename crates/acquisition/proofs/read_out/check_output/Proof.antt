@@ -7,7 +7,8 @@ use Rattle.acquisition.proofs.read_out.check_output.Statement.{statemen
 use Rattle.acquisition.proofs.read_out.check_output.Tie as tie
 
 first-impossible-requires : tie.Need-first-impossible-requires
-first-impossible-requires c κs = sound-parts _ (c .before .before .before .before .before .before .pre) .in-force .samples-high
+first-impossible-requires c κs =
+    let r = sound-parts _ (c .before .before .before .before .before .before .pre) .in-force in (r .samples-low, r .samples-high)
 
 returns : tie.Need-returns
 unfolding verdict
