@@ -1,5 +1,3 @@
--- The whole chain of a frame, single steps of it, and the laws between them.
+-- An answer for C, and the laws between a whole frame and its single steps.
 pub mod Told
-pub mod Chain
-pub mod Steps
 pub mod Laws
