@@ -1,3 +1,2 @@
--- An answer for C, and the laws between a whole frame and its single steps.
-pub mod Told
+-- The laws between a whole frame and its single steps.
 pub mod Laws

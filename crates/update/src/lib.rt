@@ -5,6 +5,9 @@ ghost use Rattle.checks.specs.Checks.{verdict};
 ghost use Rattle.record.specs.Record.{mapOf, fieldCount, fieldOf, placeOf};
 ghost use Rattle.update.specs.Update.{checkOf, fieldCheck, withField, resulting, updateOf};
 use checks::Answer;
+use ranges::samples_in_range;
+use ranges::threshold_in_range;
+use ranges::truncation_in_range;
 use record::FIELDS;
 use record::Field;
 use record::field_of;
@@ -14,9 +17,6 @@ use record::stands;
 use record::weight_of;
 use record::width;
 use settings::Settings;
-use settings::ranges::samples_in_range;
-use settings::ranges::threshold_in_range;
-use settings::ranges::truncation_in_range;
 
 // What an update answers, with the settings as it leaves them.
 pub struct Updated {

@@ -1,5 +1,5 @@
 -- `update::decode` meets its contract: the fields of the bits so far are checked and written, and the next one would start at `at`.
-use Prim.Native.Nat.{_≤_, _-_}
+use Prim.Native.Nat.{_+_, _-_, _≤_}
 use mathlib.Core.Logic.{⊎-elim}
 use mathlib.Core.Path.{_≡_, _∙_, refl}
 use borrow.Author.Needs.{needs}
@@ -40,22 +40,23 @@ loop-again c =
     let l = c .before .before .before in
     let t = rw (l .before .pair .ensures) at (c .before .stands .ensures) in
     let more = add-one (l .loop .bit) in
-    let check = fieldCheck (now (l .before .before .before .args .bytes)) in (
-      search needs,
-      ⊎-elim
-          (λ w. w .11 ∙ rw (w .8 .ensures, w .7 .ensures, l .loop .inv .1, more, ← t, w .0 .taken))
-          (λ w. w .3 ∙ l .loop .inv .1 ∙ rw (more, ← t, w .0 .left))
-          (c .if1 .came),
-      ⊎-elim
-          (λ w. w .9 ∙ w .5 .ensures
-          ∙ rw (w .4 .ensures, w .3 .ensures, w .2 .ensures, w .1 .ensures, l .loop .inv .1, l .loop .inv .2, more, verdict-each check (l .loop .bit), ← t, w .0 .taken))
-          (λ w. w .1 ∙ l .loop .inv .2 ∙ rw (more, verdict-each check (l .loop .bit), ← t, w .0 .left, first-taken))
-          (c .if1 .came),
-      ⊎-elim
-          (λ w. w .10 ∙ w .6 .ensures ∙ rw (w .2 .ensures, w .1 .ensures, l .loop .inv .1, l .loop .inv .3, more, ← t, w .0 .taken))
-          (λ w. w .2 ∙ l .loop .inv .3 ∙ rw (more, ← t, w .0 .left))
-          (c .if1 .came),
-    )
+    let check = fieldCheck (now (l .before .before .before .args .bytes)) in
+    let within : l .loop .bit + 1 ≤ fieldCount = omega arith in
+    ⊎-elim
+    (λ w. (
+      within,
+      w .11 ∙ rw (w .8 .ensures, w .7 .ensures, l .loop .inv .1, more, ← t, w .0 .taken),
+      w .9 ∙ w .5 .ensures
+          ∙ rw (w .4 .ensures, w .3 .ensures, w .2 .ensures, w .1 .ensures, l .loop .inv .1, l .loop .inv .2, more, verdict-each check (l .loop .bit), ← t, w .0 .taken),
+      w .10 ∙ w .6 .ensures ∙ rw (w .2 .ensures, w .1 .ensures, l .loop .inv .1, l .loop .inv .3, more, ← t, w .0 .taken),
+    ))
+    (λ w. (
+      within,
+      w .3 ∙ l .loop .inv .1 ∙ rw (more, ← t, w .0 .left),
+      w .1 ∙ l .loop .inv .2 ∙ rw (more, verdict-each check (l .loop .bit), ← t, w .0 .left, first-taken),
+      w .2 ∙ l .loop .inv .3 ∙ rw (more, ← t, w .0 .left),
+    ))
+    (c .if1 .came)
 
 returns : tie.Need-returns Inv-loop μ-loop
 returns c =

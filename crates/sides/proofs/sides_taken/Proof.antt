@@ -1,8 +1,8 @@
--- `board::sound::sides_taken` meets its contract.
-use Rattle.board.specs.Board.{sidesTaken}
+-- `sides::sides_taken` meets its contract.
+use Rattle.sides.specs.Sides.{sidesTaken}
 use borrow.Author.Needs.{needs}
-use Rattle.board.proofs.sound.sides_taken.Statement.{statement}
-use Rattle.board.proofs.sound.sides_taken.Tie as tie
+use Rattle.sides.proofs.sides_taken.Statement.{statement}
+use Rattle.sides.proofs.sides_taken.Tie as tie
 
 returns : tie.Need-returns
 unfolding sidesTaken

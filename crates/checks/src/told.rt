@@ -1,10 +1,10 @@
 // An answer as plain numbers.
 ghost use mathlib.Core.Path.{_≡_};
-ghost use Rattle.frame.specs.Told.{numberOf, placeOf};
-use checks::Answer;
+ghost use Rattle.checks.specs.Told.{numberOf, placeOf};
+use crate::Answer;
 
 // The refusal's number, 0 if there is none, and its place.
-pub(crate) fn told(answer: Answer, place: &mut usize) -> u8
+pub fn told(answer: Answer, place: &mut usize) -> u8
     ensures number { λ r. ⌜ r ≡ numberOf answer ⌝ }
     ensures place { λ r. ⌜ now (place .exit) ≡ placeOf answer ⌝ }
 {

@@ -1,4 +1,4 @@
--- `settings::ranges::weights_in_range` meets its contract.
+-- `ranges::weights_in_range` meets its contract.
 use Prim.Native.Nat.{_≤_, _-_}
 use mathlib.Core.Bool.{_&&_}
 use mathlib.Core.Path.{_≡_, _∙_, refl, sym}
@@ -11,9 +11,9 @@ use mir.Syntax.{w32}
 use Rattle.laws.specs.Lists.{every}
 use Rattle.laws.proofs.Every.{every-flag, every-done}
 use Rattle.laws.proofs.Ints.{back}
-use Rattle.settings.specs.Settings.{weightInRange}
-use Rattle.settings.proofs.ranges.weights_in_range.Statement.{statement}
-use Rattle.settings.proofs.ranges.weights_in_range.Tie as tie
+use Rattle.ranges.specs.Ranges.{weightInRange}
+use Rattle.ranges.proofs.weights_in_range.Statement.{statement}
+use Rattle.ranges.proofs.weights_in_range.Tie as tie
 
 abbrev Inv-loop : tie.InvT-loop
 Inv-loop weights ok₀ i₀ ok i = (i ≤ 9) × (every weightInRange weights ≡ (ok && every weightInRange (drop i weights)))

@@ -1,7 +1,6 @@
-// The ranges of the settings.
+// The range of each setting.
 ghost use mathlib.Core.Path.{_≡_};
-ghost use Rattle.settings.specs.Settings.{weightInRange, weightsInRange, thresholdInRange, truncationInRange, samplesInRange, inRange};
-use crate::Settings;
+ghost use Rattle.ranges.specs.Ranges.{weightInRange, weightsInRange, thresholdInRange, truncationInRange, samplesInRange};
 
 // Whether a weight is from -15 to 15.
 fn weight_in_range(w: i32) -> bool
@@ -10,7 +9,8 @@ fn weight_in_range(w: i32) -> bool
     (-15 <= w) & (w <= 15)
 }
 
-fn weights_in_range(weights: [i32; 9]) -> bool
+// Whether each of nine weights is.
+pub fn weights_in_range(weights: [i32; 9]) -> bool
     ensures { λ r. ⌜ r ≡ weightsInRange weights ⌝ }
 {
     let mut ok = true;
@@ -38,17 +38,4 @@ pub fn samples_in_range(n: u16) -> bool
     ensures { λ r. ⌜ r ≡ samplesInRange n ⌝ }
 {
     (1 <= n) & (n <= 9)
-}
-
-impl Settings {
-    // Whether every setting is one that an update could leave.
-    pub fn in_range(self) -> bool
-        ensures { λ r. ⌜ r ≡ inRange self ⌝ }
-    {
-        let weights = self.weights;
-        weights_in_range(weights)
-            & threshold_in_range(self.threshold)
-            & truncation_in_range(self.truncation)
-            & samples_in_range(self.samples)
-    }
 }
