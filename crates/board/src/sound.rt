@@ -27,16 +27,13 @@ impl Board {
     pub fn sound(self) -> bool
         ensures { λ r. ⌜ r ≡ Def.sound self ⌝ }
     {
-        if sides_taken(self.width, self.height, self.binned) {
-            let waiting = self.waiting;
-            let in_force = self.in_force;
-            waiting.in_range()
-                & in_force.in_range()
-                & (self.fed <= self.wanted())
-                & (self.running | (self.fed == 0))
-        } else {
-            false
-        }
+        let waiting = self.waiting;
+        let in_force = self.in_force;
+        sides_taken(self.width, self.height, self.binned)
+            & waiting.in_range()
+            & in_force.in_range()
+            & (self.fed <= self.wanted())
+            & (self.running | (self.fed == 0))
     }
 
     // The check that every operation begins with.
@@ -50,11 +47,8 @@ impl Board {
     pub fn check_ramp(self, sums: usize) -> Answer
         ensures { λ r. ⌜ r ≡ verdict (rampChecks self sums) ⌝ }
     {
-        if self.sound() {
-            let idle = Answer::when(!self.running, checks::NO_RAMP);
-            idle.then(Answer::when(sums != self.area(), checks::SUMS_LENGTH))
-        } else {
-            self.check_sound()
-        }
+        let idle = Answer::when(!self.running, checks::NO_RAMP);
+        let length = Answer::when(sums != self.area(), checks::SUMS_LENGTH);
+        self.check_sound().then(idle.then(length))
     }
 }

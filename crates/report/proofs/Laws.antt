@@ -12,7 +12,7 @@ use Rattle.checks.specs.Checks.{verdict, byAnswer}
 use Rattle.settings.specs.Settings.{inRange}
 use Rattle.record.specs.Record.{stands, fieldOf, placeOf, weightOf}
 use Rattle.update.specs.Update as Update
-use Rattle.update.specs.Update.{withBits}
+use Rattle.fields.specs.Fields.{withBits}
 use Rattle.entries.specs.Mark.{sampleOf}
 use Rattle.entries.specs.Possible.{possibleAfter}
 use Rattle.step.specs.Step.{step}

@@ -1,4 +1,4 @@
--- `update::decode` meets its contract: the fields of the bits so far are checked and written, and the next one would start at `at`.
+-- `fields::decode` meets its contract: the fields of the bits so far are checked and written, and the next one would start at `at`.
 use Prim.Native.Nat.{_+_, _-_, _≤_}
 use mathlib.Core.Logic.{⊎-elim}
 use mathlib.Core.Path.{_≡_, _∙_, refl}
@@ -10,10 +10,10 @@ use Rattle.laws.specs.Lists.{each}
 use Rattle.checks.specs.Checks.{verdict}
 use Rattle.checks.proofs.Laws.{first-taken, verdict-each}
 use Rattle.record.specs.Record.{fieldCount, mapOf, placeOf}
-use Rattle.update.specs.Update.{fieldCheck, withBits}
+use Rattle.fields.specs.Fields.{fieldCheck, withBits}
 use Rattle.record.proofs.Fields.{width-small, place-small}
-use Rattle.update.proofs.decode.Statement.{statement}
-use Rattle.update.proofs.decode.Tie as tie
+use Rattle.fields.proofs.decode.Statement.{statement}
+use Rattle.fields.proofs.decode.Tie as tie
 
 abbrev Inv-loop : tie.InvT-loop
 Inv-loop bytes map answer₀ settings₀ at₀ bit₀ answer settings at bit =

@@ -1,8 +1,8 @@
--- `update::check` meets its contract.
+-- `fields::check` meets its contract.
 use borrow.Author.Needs.{needs}
 use mathlib.Core.Path.{_∙_}
-use Rattle.update.proofs.check.Statement.{statement}
-use Rattle.update.proofs.check.Tie as tie
+use Rattle.fields.proofs.check.Statement.{statement}
+use Rattle.fields.proofs.check.Tie as tie
 
 returns : tie.Need-returns
 returns c = c .when .ensures ∙ rw (c .before .enum-told .given .1)

@@ -1,4 +1,4 @@
--- `update::with_field` meets its contract.
+-- `fields::with_field` meets its contract.
 use Prim.Native.Nat.{_<_}
 use borrow.Author.Needs.{needs}
 use mathlib.Core.Path.{sym, _∙_}
@@ -6,8 +6,8 @@ use native.Mathlib.Omega.{arith}
 use mir.Syntax.{w32}
 use Rattle.laws.proofs.Ints.{back}
 use Rattle.record.proofs.Fields.{weight-below}
-use Rattle.update.proofs.with_field.Statement.{statement}
-use Rattle.update.proofs.with_field.Tie as tie
+use Rattle.fields.proofs.with_field.Statement.{statement}
+use Rattle.fields.proofs.with_field.Tie as tie
 
 below : (c : tie.After-weight-of) → c .before .before .field .given .0 .0 < 9
 below c =
