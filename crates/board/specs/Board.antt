@@ -1,7 +1,9 @@
 -- A board: its sides, what *sound* means, and the parts that the operations change.
-use Prim.Native.Nat.{ℕ, _+_, _*_, _%_}
-use mathlib.Core.Bool.{Bool, true, false, cond, not, _&&_, _||_}
+use Prim.Native.Nat.{ℕ, _+_, _*_}
+use mathlib.Core.Bool.{Bool, true, false, not, _&&_, _||_}
 use lib.Dec.{leb, eqb}
+use Rattle.sides.specs.Sides.{ofSides}
+unfoldable pub use Rattle.sides.specs.Sides.{sidesTaken}
 use Rattle.settings.specs.declared.Settings.{Settings}
 use Rattle.settings.specs.Settings.{defaults, inRange}
 use Rattle.checks.specs.declared.Answer.{Answer}
@@ -17,17 +19,9 @@ area b = b .width * b .height
 abbrev pub wanted : Board → ℕ
 wanted b = b .«in_force» .samples * area b
 
--- a side is 1 to 1,024, and a binned board's is even
-abbrev pub sideTaken : Bool → ℕ → Bool
-sideTaken binned n = leb 1 n && leb n 1024 && not (binned && eqb (n % 2) 1)
-
--- the sides of a board that Open takes
-unfoldable pub sidesTaken : ℕ → ℕ → Bool → Bool
-sidesTaken width height binned = sideTaken binned width && sideTaken binned height
-
 -- a number of a board whose sides Open takes, and 0 for any other
 abbrev pub ofTakenSides : Board → ℕ → ℕ
-ofTakenSides b n = cond (sidesTaken (b .width) (b .height) (b .binned)) n 0
+ofTakenSides b n = ofSides (b .width) (b .height) (b .binned) n
 
 -- no more readings are fed than the ramp wants
 abbrev pub fedWithin : Board → Bool

@@ -1,4 +1,4 @@
-// The parts of a board that the operations change.
+// A board that was just opened, a ramp that ends, and what an operation leaves.
 ghost use mathlib.Core.Path.{_≡_};
 ghost use Rattle.board.specs.Board as Def;
 use crate::Board;
@@ -21,27 +21,6 @@ impl Board {
             running: false,
             fed: 0,
         }
-    }
-
-    // Other settings wait.
-    pub(crate) fn with_waiting(self, settings: Settings) -> Board
-        ensures { λ r. ⌜ r ≡ Def.withWaiting settings self ⌝ }
-    {
-        let mut b = self;
-        b.waiting = settings;
-        b
-    }
-
-    // A ramp begins: the waiting settings are in force.
-    pub(crate) fn begun(self) -> Board
-        ensures { λ r. ⌜ r ≡ Def.begun self ⌝ }
-    {
-        let waiting = self.waiting;
-        let mut b = self;
-        b.in_force = waiting;
-        b.running = true;
-        b.fed = 0;
-        b
     }
 
     // The ramp ends.

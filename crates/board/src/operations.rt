@@ -8,9 +8,9 @@ use crate::Board;
 use crate::Coverage;
 use crate::Outcome;
 use crate::changes::leaves;
-use crate::sound::sides_taken;
 use checks::Answer;
 use checks::Refusal;
+use sides::sides_taken;
 use update::update;
 
 impl Board {
@@ -34,11 +34,9 @@ impl Board {
         let u = update(waiting, bytes);
         let record = u.answer;
         let settings = u.settings;
-        leaves(
-            self.check_sound().then(record),
-            self.with_waiting(settings),
-            self,
-        )
+        let mut new = self;
+        new.waiting = settings;
+        leaves(self.check_sound().then(record), new, self)
     }
 
     // Start: the waiting settings are in force, and a ramp begins.
@@ -46,7 +44,12 @@ impl Board {
         ensures { λ r. ⌜ r ≡ startOf self ⌝ }
     {
         let running = Answer::when(self.running, checks::RAMP_RUNNING);
-        leaves(self.check_sound().then(running), self.begun(), self)
+        let waiting = self.waiting;
+        let mut new = self;
+        new.in_force = waiting;
+        new.running = true;
+        new.fed = 0;
+        leaves(self.check_sound().then(running), new, self)
     }
 
     // Drop: the ramp ends with no frame.

@@ -2,34 +2,19 @@
 ghost use mathlib.Core.Path.{_≡_};
 ghost use Rattle.checks.specs.Checks.{verdict};
 ghost use Rattle.board.specs.Board as Def;
-ghost use Rattle.board.specs.Board.{sideTaken, sidesTaken, ofTakenSides, unsound};
+ghost use Rattle.board.specs.Board.{ofTakenSides, unsound};
 ghost use Rattle.board.specs.Ramp.{rampChecks};
 use crate::Board;
 use checks::Answer;
-
-fn side_taken(binned: bool, n: usize) -> bool
-    ensures { λ r. ⌜ r ≡ sideTaken binned n ⌝ }
-{
-    (1 <= n) & (n <= 1024) & !(binned & (n % 2 == 1))
-}
-
-// Whether Open takes these sides.
-pub fn sides_taken(width: usize, height: usize, binned: bool) -> bool
-    ensures { λ r. ⌜ r ≡ sidesTaken width height binned ⌝ }
-{
-    side_taken(binned, width) & side_taken(binned, height)
-}
+use sides::area;
+use sides::sides_taken;
 
 impl Board {
     // How many pixels the board has; 0 for sides that Open doesn't take.
     pub fn area(self) -> usize
         ensures { λ r. ⌜ r ≡ ofTakenSides self (Def.area self) ⌝ }
     {
-        if sides_taken(self.width, self.height, self.binned) {
-            self.width * self.height
-        } else {
-            0
-        }
+        area(self.width, self.height, self.binned)
     }
 
     // How many readings the ramp wants in all; 0 for sides that Open doesn't take.
@@ -42,16 +27,13 @@ impl Board {
     pub fn sound(self) -> bool
         ensures { λ r. ⌜ r ≡ Def.sound self ⌝ }
     {
-        if sides_taken(self.width, self.height, self.binned) {
-            let waiting = self.waiting;
-            let in_force = self.in_force;
-            waiting.in_range()
-                & in_force.in_range()
-                & (self.fed <= self.wanted())
-                & (self.running | (self.fed == 0))
-        } else {
-            false
-        }
+        let waiting = self.waiting;
+        let in_force = self.in_force;
+        sides_taken(self.width, self.height, self.binned)
+            & waiting.in_range()
+            & in_force.in_range()
+            & (self.fed <= self.wanted())
+            & (self.running | (self.fed == 0))
     }
 
     // The check that every operation begins with.
@@ -65,11 +47,8 @@ impl Board {
     pub fn check_ramp(self, sums: usize) -> Answer
         ensures { λ r. ⌜ r ≡ verdict (rampChecks self sums) ⌝ }
     {
-        if self.sound() {
-            let idle = Answer::when(!self.running, checks::NO_RAMP);
-            idle.then(Answer::when(sums != self.area(), checks::SUMS_LENGTH))
-        } else {
-            self.check_sound()
-        }
+        let idle = Answer::when(!self.running, checks::NO_RAMP);
+        let length = Answer::when(sums != self.area(), checks::SUMS_LENGTH);
+        self.check_sound().then(idle.then(length))
     }
 }

@@ -3,6 +3,8 @@ ghost use mathlib.Core.Path.{_≡_};
 ghost use Rattle.checks.specs.Search.{orElse};
 ghost use Rattle.checks.specs.Checks as Def;
 
+pub mod told;
+
 // A refusal has a number and a place.
 pub struct Refusal {
     pub number: u8,

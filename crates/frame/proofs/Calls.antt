@@ -18,10 +18,11 @@ use Rattle.history.specs.Calls.{Call, update, start, feed, readOut, Ledger, fre
 use Rattle.history.specs.Readings.{frameFrom}
 use Rattle.history.specs.Demands.{Every, played, Demand1, FrameClaim}
 use Rattle.history.proofs.Demands.{demands}
-use Rattle.frame.specs.Chain as Chain
-use Rattle.frame.specs.Chain.{updated, started, begun, fed, frameAnswer, frameWords}
+use Rattle.begin.specs.Begun.{updated, started, begun}
+use Rattle.chain.specs.Chain as Chain
+use Rattle.chain.specs.Chain.{fed, frameAnswer, frameWords}
+use Rattle.chain.proofs.Whole.{frame-is}
 use Rattle.frame.specs.Laws.{ledgerOf}
-use Rattle.frame.proofs.Stepping.{frame-is}
 
 module _ (w h : ℕ) (binned : Bool) (bytes xs : List ℕ) (sums : List ℤ) (output : List ℕ) (taken : frameAnswer w h binned bytes xs sums output ≡ Taken) where
   abbrev b : Board

@@ -1,7 +1,4 @@
--- What a frame's checks come to.
-pub mod Whole
-pub mod Enough
-pub mod Stepping
+-- Frames that are fed in parts, and frames as lists of calls.
 pub mod Parts
 pub mod Calls
 pub mod Laws

@@ -28,11 +28,13 @@ use Rattle.acquisition.specs.ReadOut.{readOutChecks, readOutOf, readOutWords}
 use Rattle.board.proofs.Soundness.{sound-parts, sides-of}
 use Rattle.acquisition.proofs.Checked.{feed-taken, feed-passes, read-out-taken}
 use Rattle.history.specs.Demands.{joined}
-use Rattle.frame.specs.Chain.{started, begun, fed, readOut, frameAnswer, frameSums, frameWords}
-use Rattle.frame.specs.Steps.{partFed, allFed, feedAnswer, feedLeaves, readOutAnswer, readOutLeaves}
+use Rattle.begin.specs.Begun.{started, begun}
+use Rattle.begin.proofs.Beginning.{begun-sound, started-unfed}
+use Rattle.chain.specs.Chain.{fed, readOut, frameAnswer, frameSums, frameWords}
+use Rattle.chain.proofs.Whole.{frame-is, then-read-out, words-are}
+use Rattle.steps.proofs.Stepping.{feed-is, feed-left, read-out-is, read-out-left}
+use Rattle.steps.specs.Steps.{partFed, allFed, feedAnswer, feedLeaves, readOutAnswer, readOutLeaves}
 use Rattle.frame.specs.Laws.{fedInParts, PartsTaken}
-use Rattle.frame.proofs.Whole.{started-unfed, then-read-out, words-are}
-use Rattle.frame.proofs.Stepping.{begun-sound, frame-is, feed-is, feed-left, read-out-is, read-out-left}
 
 module _ (w h : ℕ) (binned : Bool) (bytes : List ℕ) where
   abbrev b : Board

@@ -12,8 +12,9 @@ use Rattle.board.specs.Covered.{coverageOf}
 use Rattle.history.specs.Calls.{update, start, feed, Ledger, fresh, viewOf, next}
 use Rattle.history.specs.Readings.{frameFrom}
 use Rattle.history.specs.Demands.{FrameClaim, joined}
-use Rattle.frame.specs.Chain.{started, frameAnswer, frameSums, frameWords}
-use Rattle.frame.specs.Steps.{feedAnswer, feedLeaves, readOutAnswer, readOutLeaves}
+use Rattle.begin.specs.Begun.{started}
+use Rattle.chain.specs.Chain.{frameAnswer, frameSums, frameWords}
+use Rattle.steps.specs.Steps.{feedAnswer, feedLeaves, readOutAnswer, readOutLeaves}
 
 -- the parts of a ramp, each fed with those before it counted: the sums that the last one leaves
 abbrev pub fedInParts : ℕ → ℕ → Bool → List ℕ → ℕ → List (List ℕ) → List ℤ → List ℤ

@@ -1,5 +1,2 @@
--- The whole chain of a frame, single steps of it, and the laws between them.
-pub mod Told
-pub mod Chain
-pub mod Steps
+-- The laws between a whole frame and its single steps.
 pub mod Laws

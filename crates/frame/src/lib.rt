@@ -1,67 +1,14 @@
-// A whole frame in one call, for programs in Rattle, C and Rust.
+// A whole frame in one call, and Feed and Read out alone, for C and Rust: a refusal's number, 0 if there is none, and its place.
 ghost use mathlib.Core.Path.{_≡_};
-ghost use Rattle.checks.specs.Checks.{first};
-ghost use Rattle.frame.specs.Chain.{fed, readOut, frameAnswer, frameSums, frameWords};
-ghost use Rattle.frame.specs.Told.{numberOf, placeOf};
-use crate::begin::begin;
-use crate::told::told;
-use acquisition::feed::check_feed;
-use acquisition::read_out::word_count;
-use board::Board;
-use checks::Answer;
-use ramp::feed;
-use words::frame::write_frame;
+ghost use Rattle.checks.specs.Told.{numberOf, placeOf};
+ghost use Rattle.chain.specs.Chain.{frameAnswer, frameSums, frameWords};
+ghost use Rattle.steps.specs.Steps.{feedAnswer, feedLeaves, readOutAnswer, readOutLeaves};
+use chain::frame_of;
+use checks::told::told;
+use steps::feed_of;
+use steps::read_out_of;
 
-mod begin;
-pub mod steps;
-mod told;
-
-// The checks of Feed and of a Read out after it, on a ramp with nothing fed. Read out's 14 would find nothing: what Feed leaves is possible.
-fn check(b: Board, readings: &[u16], sums: &[i32], words: &[u16]) -> Answer
-    requires { ⌜ b .fed ≡ 0 ⌝ }
-    ensures { λ r. ⌜ r ≡ first (fed b (now (readings .entry)) (now (sums .entry)) .answer) (readOut b (now (readings .entry)) (now (sums .entry)) (now (words .entry)) .answer) ⌝ }
-{
-    let feed = check_feed(b, readings, sums);
-    match feed {
-        Answer::Taken => {
-            let wanted = Answer::when(readings.len() < b.wanted(), checks::READINGS_WANTED);
-            wanted.then(Answer::when(words.len() != word_count(b), checks::OUTPUT_LENGTH))
-        }
-        Answer::Refused(_) => feed,
-    }
-}
-
-// Open, update, start, feed and read out. Every check comes first, and once: nothing is written unless all five are taken.
-pub fn frame_of(
-    width: usize,
-    height: usize,
-    binned: bool,
-    record: &[u8],
-    readings: &[u16],
-    sums: &mut [i32],
-    words: &mut [u16],
-) -> Answer
-    ensures answer { λ r. ⌜ r ≡ frameAnswer width height binned (now («record» .entry)) (now (readings .entry)) (now (sums .entry)) (now (words .entry)) ⌝ }
-    ensures sums { λ r. ⌜ now (sums .exit) ≡ frameSums width height binned (now («record» .entry)) (now (readings .entry)) (now (sums .entry)) (now (words .entry)) ⌝ }
-    ensures words { λ r. ⌜ now (words .exit) ≡ frameWords width height binned (now («record» .entry)) (now (readings .entry)) (now (sums .entry)) (now (words .entry)) ⌝ }
-{
-    let begun = begin(width, height, binned, record);
-    let begin_answer = begun.answer;
-    let b = begun.board;
-    let answer = begin_answer.then(check(b, readings, sums, words));
-    match answer {
-        Answer::Taken => {
-            let settings = b.in_force;
-            let truncation = settings.truncation;
-            feed(readings, sums, b.fed, settings);
-            write_frame(sums, words, b.width, b.height, b.binned, truncation);
-            answer
-        }
-        Answer::Refused(_) => answer,
-    }
-}
-
-// The same for C: the refusal's number, 0 if the frame was taken, and its place.
+// A frame: the number of the first refusal of Open, Update, Start, Feed and Read out, 0 if it was taken, and its place.
 #[no_mangle]
 pub extern "C" fn ramp_frame(
     width: usize,
@@ -80,6 +27,49 @@ pub extern "C" fn ramp_frame(
 {
     told(
         frame_of(width, height, binned, record, readings, sums, words),
+        place,
+    )
+}
+
+// Feed, with `fed` readings of the ramp already fed: the number of the first refusal of Open, Update, Start and Feed, 0 if there is none, and its place.
+#[no_mangle]
+pub extern "C" fn ramp_feed(
+    width: usize,
+    height: usize,
+    binned: bool,
+    record: &[u8],
+    fed: usize,
+    readings: &[u16],
+    sums: &mut [i32],
+    place: &mut usize,
+) -> u8
+    ensures number { λ r. ⌜ r ≡ numberOf (feedAnswer width height binned (now («record» .entry)) fed (now (readings .entry)) (now (sums .entry))) ⌝ }
+    ensures place { λ r. ⌜ now (place .exit) ≡ placeOf (feedAnswer width height binned (now («record» .entry)) fed (now (readings .entry)) (now (sums .entry))) ⌝ }
+    ensures sums { λ r. ⌜ now (sums .exit) ≡ feedLeaves width height binned (now («record» .entry)) fed (now (readings .entry)) (now (sums .entry)) ⌝ }
+{
+    told(
+        feed_of(width, height, binned, record, fed, readings, sums),
+        place,
+    )
+}
+
+// Read out, with all readings of the ramp fed: the number of the first refusal of Open, Update, Start and Read out, 0 if there is none, and its place.
+#[no_mangle]
+pub extern "C" fn ramp_read_out(
+    width: usize,
+    height: usize,
+    binned: bool,
+    record: &[u8],
+    sums: &[i32],
+    words: &mut [u16],
+    place: &mut usize,
+) -> u8
+    ensures number { λ r. ⌜ r ≡ numberOf (readOutAnswer width height binned (now («record» .entry)) (now (sums .entry)) (now (words .entry))) ⌝ }
+    ensures place { λ r. ⌜ now (place .exit) ≡ placeOf (readOutAnswer width height binned (now («record» .entry)) (now (sums .entry)) (now (words .entry))) ⌝ }
+    ensures words { λ r. ⌜ now (words .exit) ≡ readOutLeaves width height binned (now («record» .entry)) (now (sums .entry)) (now (words .entry)) ⌝ }
+{
+    told(
+        read_out_of(width, height, binned, record, sums, words),
         place,
     )
 }

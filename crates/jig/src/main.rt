@@ -3,7 +3,7 @@ ghost use mathlib.Core.Path.{_≡_};
 ghost use Prim.Native.Nat.{_+_, _≤_};
 ghost use lib.ListN.{length, take};
 ghost use Rattle.io.specs.Counts.{Counts};
-ghost use Rattle.job.specs.Input.{capacity};
+ghost use Rattle.job.specs.Kept.{capacity};
 ghost use Rattle.report.specs.Text.{textOf};
 ghost use Rattle.report.specs.Requires.{room};
 use libc::STDIN_FILENO;

@@ -1,41 +1,31 @@
 -- What comes of a job's checks.
 --     Handed, handed     what the chain of the frame is handed
 --     few-words, zeros   of the buffers
---     input-checks, few-pixels     the checks of an input, one after the other, and what 18 has shown
 --     answer-is, words-are         what comes of a job, from the first of its readings
 --     overlong-is, overlong-refused     and where its record is too long
 --     turned-down, carried         the result of a refused job, and of a taken one
-use Prim.Native.Nat.{ℕ, zero, suc, _+_, _*_, _%_, _≤_, _<_}
-use mathlib.Core.Bool.{Bool, true, false, not}
+use Prim.Native.Nat.{ℕ, zero, suc, _*_, _≤_, _<_}
+use mathlib.Core.Bool.{Bool, true, false}
 use mathlib.Core.List.{List, [], _∷_, _++_}
 use mathlib.Core.Path.{_≡_, refl, sym, _∙_}
-use borrow.Author.Tests.{ltb-false}
 use native.Mathlib.Omega.{arith}
-use lib.Dec.{ltb, eqb}
 use lib.IntN.{ℤ, pos}
 use lib.ListN.{length, take, replicate}
 use lib.Seq.{take-at}
 use Rattle.checks.specs.declared.Refusal.{Refusal}
 use Rattle.checks.specs.declared.Answer.{Answer}
 use Rattle.checks.specs.declared.Answer.the-variants.{Taken, Refused}
-use Rattle.checks.specs.Checks.{refusal, when, first, verdict, byAnswer}
-use Rattle.checks.proofs.Laws.{first-taken, verdict-append, verdict-rest, both-taken, when-taken}
+use Rattle.checks.specs.Checks.{refusal, first, verdict, byAnswer}
+use Rattle.checks.proofs.Laws.{first-taken, verdict-append}
 use Rattle.record.specs.Record.{mapOf}
 use Rattle.update.proofs.Overlong.{longest}
 use Rattle.words.specs.Frame.{wordCount}
-use Rattle.board.specs.Board.{sidesTaken}
-use Rattle.board.specs.Open.{openOf}
-use Rattle.frame.specs.Chain.{frameAnswer, frameWords}
-use Rattle.frame.proofs.Enough.{refused-last, overlongChecks, overlong-answer, enough-answer, enough-words}
-use Rattle.job.specs.Input.{widthOf, heightOf, binnedByte, isBinned, recordOf, readingsAt, readingsOf, maxPixels, maxReadings}
-use Rattle.job.specs.Job.{area, inputChecks, zeroSums, zeroWords, jobAnswer, jobWords, columnsOf, truncationOf, refusedJob, Result}
-
-parity : (a b : ℕ) → (a % 2 + b % 2) % 2 ≡ (a + b) % 2
-parity a b = omega arith
-
-last-taken : (a : Answer) → verdict (a ∷ []) ≡ Taken → a ≡ Taken
-unfolding verdict
-last-taken a e = both-taken a Taken e .0
+use Rattle.chain.specs.Chain.{frameAnswer, frameWords}
+use Rattle.chain.proofs.Enough.{refused-last, overlongChecks, overlong-answer, enough-answer, enough-words}
+use Rattle.input.specs.Input.{widthOf, heightOf, isBinned, recordOf, readingsOf, maxPixels, maxReadings}
+use Rattle.input.specs.Checks.{area, inputChecks}
+use Rattle.input.proofs.Checking.{few-pixels}
+use Rattle.job.specs.Job.{zeroSums, zeroWords, jobAnswer, jobWords, columnsOf, truncationOf, refusedJob, Result}
 
 -- the frame of an input with other readings
 abbrev pub answerOf : List ℕ → List ℕ → Answer
@@ -78,26 +68,9 @@ zeros z (suc n) zero h = absurd (omega arith)
 zeros z (suc n) (suc k) h = rw (zeros z n k (omega arith))
 
 module _ (bytes : List ℕ) (total : ℕ) where
-  pub input-checks : verdict (inputChecks bytes total)
-      ≡ first (when (ltb total 6) 17)
-      (first (when (ltb 1 (binnedByte bytes)) 17)
-      (first (when (ltb total (readingsAt bytes)) 17)
-      (first (when (eqb ((total % 2 + readingsAt bytes % 2) % 2) 1) 17)
-      (first (openOf (widthOf bytes) (heightOf bytes) (isBinned bytes) .answer) (when (ltb maxPixels (area bytes)) 18)))))
-  unfolding verdict openOf
-  input-checks =
-      rw (
-        parity total (readingsAt bytes),
-        first-taken (when (ltb maxPixels (area bytes)) 18),
-        first-taken (when (not (sidesTaken (widthOf bytes) (heightOf bytes) (isBinned bytes))) 1),
-      )
-
-  pub few-pixels : verdict (inputChecks bytes total) ≡ Taken → area bytes ≤ maxPixels
-  few-pixels e = ltb-false maxPixels (area bytes) (when-taken (ltb maxPixels (area bytes)) 18 (last-taken _ (verdict-rest _ _ (verdict-rest _ _ (verdict-rest _ _ (verdict-rest _ _ (verdict-rest _ _ e)))))))
-
   -- the first readings are more than a taken input's frame wants
   many : verdict (inputChecks bytes total) ≡ Taken → 9 * area bytes < maxReadings
-  many e = omega (arith, few-pixels e)
+  many e = omega (arith, few-pixels bytes total e)
 
   chain : jobAnswer bytes total ≡ first (verdict (inputChecks bytes total)) (answerOf bytes (readingsOf bytes))
   unfolding jobAnswer verdict

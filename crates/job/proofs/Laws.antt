@@ -10,11 +10,14 @@ use lib.Seq.{take-all, getD-take, take-take}
 use Rattle.laws.proofs.Tests.{cases}
 use Rattle.laws.proofs.Parts.{part-at}
 use Rattle.checks.specs.Checks.{byAnswer}
-use Rattle.frame.specs.Chain.{started, frameAnswer, frameWords}
+use Rattle.begin.specs.Begun.{started}
+use Rattle.chain.specs.Chain.{frameAnswer, frameWords}
+use Rattle.input.specs.Input.{widthOf, heightOf, binnedByte, isBinned, recordLength, recordOf, readingsAt, pairs, maxReadings}
+use Rattle.input.specs.Checks.{inputChecks}
 use Rattle.job.specs.declared.Job.{Job}
 use Rattle.update.proofs.Overlong.{longest}
-use Rattle.job.specs.Input.{widthOf, heightOf, binnedByte, isBinned, recordLength, recordOf, readingsAt, pairs, maxReadings, capacity}
-use Rattle.job.specs.Job.{inputChecks, zeroSums, zeroWords, jobAnswer, jobWords, truncationOf, Result}
+use Rattle.job.specs.Kept.{capacity}
+use Rattle.job.specs.Job.{zeroSums, zeroWords, jobAnswer, jobWords, truncationOf, Result}
 use Rattle.job.specs.Laws.{JobLaws}
 use Rattle.job.proofs.Pairs.{drop-take, pairs-take}
 use Rattle.job.proofs.Jobs.{Handed, handed, firstReadings, answer-is, words-are, overlong-is, overlong-refused}

@@ -4,6 +4,7 @@
 --     record-part                the record
 --     pairs-take, pairs-at, pairs-length     a part, an element, how many
 --     bytes-length, readings-part            the first readings and their bytes
+--     Lies, lies                             the order of the places between the parts
 use Prim.Native.Nat.{ℕ, zero, suc, _+_, _-_, _*_, _/_, _≤_, _<_, min}
 use mathlib.Core.List.{List, [], _∷_}
 use mathlib.Core.Path.{_≡_, refl, sym, ap, _∙_}
@@ -12,9 +13,11 @@ use native.Mathlib.Omega.{arith}
 use lib.Dec.{ltb}
 use lib.ListN.{length, getD, take, drop, length-take, length-drop, drop-of-length-le}
 use lib.Seq.{take-all, take-nil, take-take}
+use mir.Syntax.{w64}
+use mir.Val.{Fits}
 use Rattle.laws.proofs.Tests.{cases}
 use Rattle.record.specs.Record.{pairAt}
-use Rattle.job.specs.Input.{pairs, recordLength, recordOf, readingsAt, readingsOf, maxReadings}
+use Rattle.input.specs.Input.{pairs, recordLength, recordOf, readingsAt, readingsOf, maxReadings}
 
 module _ {A : Type 0} where
   take-least : (n m : ℕ) (l : List A) → n ≡ min m (length l) → take n l ≡ take m l
@@ -76,3 +79,24 @@ module _ (l : List ℕ) (start fed : ℕ) (e : start ≡ min (readingsAt l) (len
       let d : start + 2 * fed - start ≡ 2 * fed = omega arith in
       rw (d, drop-least start (readingsAt l) l e, pairs-take fed (drop (readingsAt l) l), take-take fed fed (readingsOf l) (omega arith))
       (take-least fed maxReadings (readingsOf l) (rw (pairs-length, length-drop) (omega arith)))
+
+-- the record stands from `from` on, the readings from `start` on, of which `fed` are decoded; n is the length
+pub record Lies (n from start fed : ℕ) : Type 0 where
+  pub ordered : from ≤ start
+  pub start-in : start ≤ n
+  pub end-in : start + 2 * fed ≤ n
+  pub end-after : start ≤ start + 2 * fed
+  pub end-fits : Fits w64 (start + 2 * fed)
+  pub size-fits : Fits w64 (2 * fed)
+  pub few : fed ≤ maxReadings
+
+pub lies : (n size from start fed : ℕ) → size < 256 → from ≡ min 6 n → start ≡ min (6 + size) n → fed ≡ min ((n - start) / 2) maxReadings → Lies n from start fed
+lies n size from start fed b e f g = record {
+  ordered = omega arith;
+  start-in = omega arith;
+  end-in = omega arith;
+  end-after = omega arith;
+  end-fits = omega arith;
+  size-fits = omega arith;
+  few = omega arith;
+}

@@ -3,7 +3,7 @@ use Prim.Native.Nat.{ℕ}
 use mathlib.Core.List.{List}
 use lib.ListN.{length, take}
 use Rattle.job.specs.declared.Job.{Job}
-use Rattle.job.specs.Input.{capacity}
+use Rattle.job.specs.Kept.{capacity}
 use Rattle.job.specs.Job.{Result}
 
 pub record JobLaws : Type 0 where

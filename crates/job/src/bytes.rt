@@ -2,7 +2,7 @@
 ghost use mathlib.Core.Path.{_≡_};
 ghost use Prim.Native.Nat.{_*_, _<_, _≤_};
 ghost use lib.ListN.{length, take};
-ghost use Rattle.job.specs.Input.{pairs};
+ghost use Rattle.input.specs.Input.{pairs};
 use record::pair;
 
 // The readings in the bytes, into the front of a buffer that has room for them.

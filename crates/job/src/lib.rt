@@ -1,11 +1,9 @@
 // A job of the jig: from the bytes of an input to the words of its frame, or a refusal.
 use checks::Answer;
+use input::PIXELS;
 
 mod bytes;
 pub mod run;
-
-// The most pixels of a job.
-pub(crate) const PIXELS: usize = 1024;
 
 // One reading more than the largest job wants: a reading too many is still seen.
 pub(crate) const READINGS: usize = 9 * PIXELS + 1;

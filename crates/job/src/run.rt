@@ -5,37 +5,21 @@ ghost use Prim.Native.Nat.{ℕ, _/_, _≤_};
 ghost use Rattle.checks.specs.Checks.{verdict};
 ghost use Rattle.checks.specs.declared.Answer.the-variants.{Taken};
 ghost use Rattle.words.specs.Frame.{wordCount};
-ghost use Rattle.frame.specs.Chain.{started};
-ghost use Rattle.job.specs.Input.{maxPixels};
-ghost use Rattle.job.specs.Job.{area, inputChecks, refusedJob, Result};
+ghost use Rattle.begin.specs.Begun.{started};
+ghost use Rattle.input.specs.Input.{maxPixels};
+ghost use Rattle.input.specs.Checks.{area, inputChecks};
+ghost use Rattle.job.specs.Job.{refusedJob, Result};
 use crate::Job;
-use crate::PIXELS;
 use crate::READINGS;
 use crate::bytes::decode;
-use board::Board;
+use begin::begin;
+use chain::frame_of;
 use checks::Answer;
-use frame::frame_of;
+use input::PIXELS;
+use input::check_input;
 use numbers::least;
 use record::byte;
 use record::pair;
-
-// 17, then 1, then 18. `total` is how many bytes the whole input has.
-fn check_input(input: &[u8], total: usize) -> Answer
-    ensures { λ r. ⌜ r ≡ verdict (inputChecks (now (input .entry)) total) ⌝ }
-{
-    let width = pair(input, 0) as usize;
-    let height = pair(input, 2) as usize;
-    let binned = byte(input, 4);
-    let start = 6 + byte(input, 5) as usize;
-    let short = Answer::when(total < 6, checks::INPUT);
-    let flag = Answer::when(binned > 1, checks::INPUT);
-    let record = Answer::when(total < start, checks::INPUT);
-    let odd = Answer::when((total % 2 + start % 2) % 2 == 1, checks::INPUT);
-    let opened = Board::open(width, height, binned == 1);
-    let sides = opened.answer;
-    let pixels = Answer::when(width * height > PIXELS, checks::TOO_MANY_PIXELS);
-    short.then(flag.then(record.then(odd.then(sides.then(pixels)))))
-}
 
 // How many words a frame has, of so many pixels.
 fn word_count(binned: bool, pixels: usize) -> usize
@@ -55,12 +39,10 @@ fn columns(binned: bool, width: usize) -> usize
 fn truncation(width: usize, height: usize, binned: bool, record: &[u8]) -> u16
     ensures { λ r. ⌜ r ≡ started width height binned (now («record» .entry)) .board .«in_force» .truncation ⌝ }
 {
-    let opened = Board::open(width, height, binned);
-    let open_board = opened.board;
-    let updated = open_board.update(record);
-    let update_board = updated.board;
-    let started = update_board.start();
-    started.board.in_force.truncation
+    begin(width, height, binned, record)
+        .board
+        .in_force
+        .truncation
 }
 
 // The job of a refusal.
@@ -89,6 +71,7 @@ fn carry_out(input: &[u8]) -> Job
     let from = least(6, input.len());
     let start = least(6 + byte(input, 5) as usize, input.len());
     let fed = least((input.len() - start) / 2, READINGS);
+    let record = &input[from..start];
     let mut readings = [0u16; READINGS];
     let mut sums = [0i32; PIXELS];
     let mut words = [0u16; PIXELS];
@@ -97,7 +80,7 @@ fn carry_out(input: &[u8]) -> Job
         width,
         height,
         binned,
-        &input[from..start],
+        record,
         &readings[..fed],
         &mut sums[..pixels],
         &mut words[..count],
@@ -107,7 +90,7 @@ fn carry_out(input: &[u8]) -> Job
             answer: answer,
             count: count,
             columns: columns(binned, width),
-            truncation: truncation(width, height, binned, &input[from..start]),
+            truncation: truncation(width, height, binned, record),
             words: words,
         },
         Answer::Refused(_) => refused(answer),

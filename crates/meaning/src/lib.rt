@@ -3,7 +3,7 @@ ghost use mathlib.Core.Path.{_≡_};
 ghost use Prim.Native.Nat.{_≤_};
 ghost use Rattle.meaning.specs.Meaning.{meaning, readWord};
 use checks::Refusal;
-use settings::ranges::truncation_in_range;
+use ranges::truncation_in_range;
 
 // What a word means: the limits of its sum, or a flag.
 pub enum WordRead {

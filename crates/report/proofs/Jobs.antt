@@ -1,28 +1,22 @@
 -- What a job's result says of its text.
-use Prim.Native.Nat.{ℕ, zero, suc, _/_, _≤_, _<_}
+use Prim.Native.Nat.{ℕ, _/_, _≤_, _<_}
 use mathlib.Core.Bool.{Bool, true, false, cond}
 use mathlib.Core.List.{List, _∷_}
 use mathlib.Core.Path.{_≡_, refl, sym, _∙_}
 use borrow.Author.Tests.{not-false}
 use native.Mathlib.Omega.{arith}
 use lib.ListN.{length, take, length-take}
-use lib.Seq.{getD-take}
 use Rattle.checks.specs.declared.Answer.{Answer}
 use Rattle.checks.specs.declared.Answer.the-variants.{Taken, Refused}
 use Rattle.checks.specs.Checks.{verdict, byAnswer}
 use Rattle.checks.proofs.Laws.{verdict-append, verdict-rest, both-taken, when-taken}
 use Rattle.board.proofs.Soundness.{Sides, sides-parts}
 use Rattle.job.specs.declared.Job.{Job}
-use Rattle.job.specs.Input.{widthOf, heightOf, isBinned}
-use Rattle.job.specs.Job.{inputChecks, jobAnswer, jobWords, columnsOf, truncationOf, Result}
-use Rattle.report.specs.Text.{linesText, answerText, textOf}
+use Rattle.input.specs.Input.{widthOf, heightOf, isBinned}
+use Rattle.input.specs.Checks.{inputChecks}
+use Rattle.job.specs.Job.{jobAnswer, jobWords, columnsOf, truncationOf, Result}
+use Rattle.report.specs.Text.{answerText, textOf}
 use Rattle.report.specs.Requires.{room, Fits}
-
--- lines of the first words are lines of all
-pub lines-front : (columns r : ℕ) (words : List ℕ) (n m : ℕ) → m ≤ n → linesText columns r (take n words) m ≡ linesText columns r words m
-unfolding linesText
-lines-front columns r words n zero h = refl
-lines-front columns r words n (suc m) h = rw (lines-front columns r words n m (omega arith), getD-take n words m 0 (omega arith))
 
 -- a row of a board that Open takes has some words
 some-columns : (binned : Bool) (w h : ℕ) → Sides w h binned → 0 < cond binned (w / 2) w

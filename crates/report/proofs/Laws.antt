@@ -12,7 +12,7 @@ use Rattle.checks.specs.Checks.{verdict, byAnswer}
 use Rattle.settings.specs.Settings.{inRange}
 use Rattle.record.specs.Record.{stands, fieldOf, placeOf, weightOf}
 use Rattle.update.specs.Update as Update
-use Rattle.update.specs.Update.{withBits}
+use Rattle.fields.specs.Fields.{withBits}
 use Rattle.entries.specs.Mark.{sampleOf}
 use Rattle.entries.specs.Possible.{possibleAfter}
 use Rattle.step.specs.Step.{step}
@@ -25,16 +25,15 @@ use Rattle.board.specs.Update.{updateOf}
 use Rattle.board.specs.Ramp.{startOf}
 use Rattle.acquisition.specs.Feed.{feedOf, fedSums}
 use Rattle.acquisition.specs.ReadOut.{readOutOf, readOutWords}
-use Rattle.frame.specs.Chain.{frameAnswer, frameWords}
-use Rattle.job.specs.Input.{pairs}
-use Rattle.meaning.specs.Meaning.{meaning, readWord}
+use Rattle.chain.specs.Chain.{frameAnswer, frameWords}
+use Rattle.input.specs.Input.{pairs}
+use Rattle.lines.specs.Lines.{lineText, linesText}
 use Rattle.job.specs.declared.Job.{Job}
-use Rattle.job.specs.Input.{capacity}
+use Rattle.job.specs.Kept.{capacity}
 use Rattle.job.specs.Job.{jobAnswer, jobWords, columnsOf, truncationOf, Result}
 use Rattle.job.proofs.Laws as Jobs
-use Rattle.report.specs.Text.{digitCount, decimal, header, lineText, linesText, textOf}
+use Rattle.report.specs.Text.{header, textOf}
 use Rattle.report.specs.Laws.{ReportLaws}
-use Rattle.report.proofs.Limits.{whole-is, ordinary-text}
 use Rattle.report.proofs.Jobs.{text-is}
 
 -- a result of an input
@@ -83,11 +82,5 @@ unfolding example linesText
 known-text = rw (taken, words, truncation)
 
 pub laws : ReportLaws
-unfolding meaning readWord decimal digitCount example
-laws = record {
-  prefix = prefix;
-  ordinary-text = ordinary-text;
-  known-digits = (refl, refl, refl, refl);
-  known-meanings = (rw (whole-is 128 (omega arith), whole-is 132 (omega arith)), refl, refl, refl, refl, refl, refl);
-  known-text = known-text;
-}
+unfolding example
+laws = record { prefix = prefix; known-text = known-text }

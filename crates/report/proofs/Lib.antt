@@ -1,6 +1,3 @@
--- Text in a buffer: lists that grow at their end, decimal digits, and the limits of words.
-pub mod Appended
-pub mod Decimals
-pub mod Limits
+-- What a job's result says of its text, and the laws of it.
 pub mod Jobs
 pub mod Laws

@@ -6,14 +6,11 @@ ghost use Rattle.io.specs.Counts.{Counts};
 ghost use Rattle.checks.specs.declared.Answer.the-variants.{Taken};
 ghost use Rattle.report.specs.Text.{answerText, textOf};
 ghost use Rattle.report.specs.Requires.{room, Fits};
-use crate::line::put_lines;
-use crate::line::put_refusal;
-use crate::put::put;
 use checks::Answer;
 use job::Job;
-
-mod line;
-mod put;
+use lines::put_lines;
+use text::put;
+use text::put_refusal;
 
 // Room for the header and 1,024 lines of 106 bytes each, more than any line has.
 pub const ROOM: usize = 21 + 1024 * 106;

@@ -1,9 +1,9 @@
-// The settings of a ramp board, their ranges, and the covered question.
+// The settings of a ramp board, whether they are in range, and the covered question.
 ghost use mathlib.Core.Path.{_≡_};
 ghost use Rattle.settings.specs.Settings as Def;
 
 mod covered;
-pub mod ranges;
+mod in_range;
 
 pub struct Settings {
     // The weights of samples 1 to 9.

@@ -16,7 +16,8 @@ use Rattle.record.specs.declared.Field.{Field}
 use Rattle.record.specs.declared.Field.the-variants.{Weight, Threshold, Truncation, Samples}
 use Rattle.settings.specs.declared.Settings.{Settings}
 use Rattle.record.specs.Record.{stands, mapOf, fieldCount, fieldOf, numberOf, weightOf}
-use Rattle.update.specs.Update.{withField, withBits, updateOf}
+use Rattle.fields.specs.Fields.{withField, withBits}
+use Rattle.update.specs.Update.{updateOf}
 use Rattle.update.specs.Laws.{valueIn, meantBy}
 use Rattle.record.proofs.Fields.{weight-below, field-apart}
 

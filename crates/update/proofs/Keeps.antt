@@ -21,7 +21,8 @@ use Rattle.record.specs.declared.Field.the-variants.{Weight, Threshold, Truncat
 use Rattle.settings.specs.declared.Settings.{Settings}
 use Rattle.settings.specs.Settings.{weightInRange, maxSamples, weightsInRange, thresholdInRange, truncationInRange, samplesInRange, inRange}
 use Rattle.record.specs.Record.{stands, mapOf, fieldCount, fieldOf, numberOf, weightOf}
-use Rattle.update.specs.Update.{checkOf, fieldCheck, updateChecks, withField, withBit, withBits, resulting, updateOf}
+use Rattle.fields.specs.Fields.{checkOf, fieldCheck, withField, withBit, withBits, resulting}
+use Rattle.update.specs.Update.{updateChecks, updateOf}
 
 size-in-range : (m : ℕ) → m < 16 → weightInRange (negℤ (pos m)) ≡ true
 size-in-range zero h = refl

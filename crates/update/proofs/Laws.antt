@@ -3,7 +3,8 @@ use mathlib.Core.Path.{refl}
 use Rattle.laws.specs.Lists.{each, anyOf}
 use Rattle.checks.specs.Checks.{verdict}
 use Rattle.record.specs.Record.{stands, fieldOf, placeOf}
-use Rattle.update.specs.Update.{withBits, updateOf}
+use Rattle.fields.specs.Fields.{withBits}
+use Rattle.update.specs.Update.{updateOf}
 use Rattle.update.specs.Laws.{UpdateLaws}
 use Rattle.update.proofs.Keeps.{stays-in-range}
 use Rattle.update.proofs.Changes.{changes-named}

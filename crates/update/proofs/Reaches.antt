@@ -21,7 +21,8 @@ use Rattle.record.specs.declared.Field.the-variants.{Threshold, Truncation, Sam
 use Rattle.settings.specs.declared.Settings.{Settings}
 use Rattle.settings.specs.Settings.{weightInRange, inRange}
 use Rattle.record.specs.Record.{stands, fieldCount, fieldOf, placeOf, numberAt, numberOf, weightOf}
-use Rattle.update.specs.Update.{checkOf, fieldCheck, updateChecks, resulting, updateOf}
+use Rattle.fields.specs.Fields.{checkOf, fieldCheck, resulting}
+use Rattle.update.specs.Update.{updateChecks, updateOf}
 use Rattle.update.specs.Laws.{valueIn, meantBy, taken}
 use Rattle.record.proofs.Fields.{field-cases}
 use Rattle.settings.proofs.Parts.{InRange, in-range-parts}

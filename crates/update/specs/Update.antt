@@ -1,30 +1,17 @@
--- Update: its checks, the settings that would result, and its outcome.
-use Prim.Native.Nat.{ℕ, zero, suc}
-use mathlib.Core.Bool.{cond, not}
+-- Update: its checks, and its outcome.
+use Prim.Native.Nat.{ℕ}
+use mathlib.Core.Bool.{not}
 use mathlib.Core.List.{List, _∷_}
 use lib.Dec.{ltb, eqb}
-use lib.ListN.{length, set}
+use lib.ListN.{length}
 use Rattle.laws.specs.Lists.{each}
 use Rattle.checks.specs.declared.Answer.{Answer}
-use Rattle.checks.specs.declared.Answer.the-variants.{Taken}
 use Rattle.checks.specs.Checks.{when, verdict, byAnswer}
-use Rattle.record.specs.declared.Field.{Field}
-use Rattle.record.specs.declared.Field.the-variants.{Weight, Threshold, Truncation, Samples}
+use Rattle.record.specs.Record.{mapOf, fieldCount, unknownBit, placeOf}
 use Rattle.settings.specs.declared.Settings.{Settings}
+use Rattle.fields.specs.Fields.{fieldCheck}
+pub use Rattle.fields.specs.Fields.{resulting}
 use Rattle.update.specs.declared.Updated.{Updated}
-use Rattle.settings.specs.Settings.{thresholdInRange, truncationInRange, samplesInRange, withWeights, withThreshold, withTruncation, withSamples}
-use Rattle.record.specs.Record.{stands, mapOf, fieldCount, unknownBit, fieldOf, placeOf, numberOf, weightOf}
-
--- 5: a weight byte above 31. 6: a threshold above 16,383. 7: an r outside 1 to 3. 8: an N outside 1 to 9
-abbrev pub checkOf : Field → ℕ → Answer
-checkOf (Weight i) v = when (ltb 31 v) 5
-checkOf Threshold v = when (not (thresholdInRange v)) 6
-checkOf Truncation v = when (not (truncationInRange v)) 7
-checkOf Samples v = when (not (samplesInRange v)) 8
-
--- the check of a bit's field, if the bit stands
-abbrev pub fieldCheck : List ℕ → ℕ → Answer
-fieldCheck bytes bit = cond (stands (mapOf bytes) bit) (checkOf (fieldOf bit) (numberOf bytes bit)) Taken
 
 -- 2: under two bytes. 3: a map bit from 12 to 15 stands. 4: not the length that the map calls for. Then the checks of the fields, from the lowest bit up
 abbrev pub updateChecks : List ℕ → List Answer
@@ -33,26 +20,6 @@ updateChecks bytes =
     ∷ when (unknownBit (mapOf bytes)) 3
     ∷ when (not (eqb (length bytes) (placeOf (mapOf bytes) fieldCount))) 4
     ∷ each (fieldCheck bytes) fieldCount
-
--- settings with one field written
-abbrev pub withField : Field → ℕ → Settings → Settings
-withField (Weight i) v s = withWeights (set (s .weights) i (weightOf v)) s
-withField Threshold v s = withThreshold v s
-withField Truncation v s = withTruncation v s
-withField Samples v s = withSamples v s
-
--- settings with the field of a bit written, if the bit stands
-abbrev pub withBit : List ℕ → ℕ → Settings → Settings
-withBit bytes bit s = cond (stands (mapOf bytes) bit) (withField (fieldOf bit) (numberOf bytes bit) s) s
-
--- settings with the fields of the bits below n written, in bit order
-unfoldable pub withBits : List ℕ → ℕ → Settings → Settings
-withBits bytes zero s = s
-withBits bytes (suc bit) s = withBit bytes bit (withBits bytes bit s)
-
--- the settings that would result
-abbrev pub resulting : List ℕ → Settings → Settings
-resulting bytes s = withBits bytes fieldCount s
 
 -- taken whole, or not at all
 unfoldable pub updateOf : Settings → List ℕ → Updated

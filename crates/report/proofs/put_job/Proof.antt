@@ -5,15 +5,15 @@ use mathlib.Core.Path.{_≡_, ap, _∙_}
 use borrow.Author.Needs.{needs}
 use native.Mathlib.Omega.{arith}
 use lib.ListN.{length, take, length-take, length-map}
-use Rattle.report.specs.Text.{linesText}
-use Rattle.report.proofs.Jobs.{lines-front}
+use Rattle.lines.specs.Lines.{linesText}
+use Rattle.lines.proofs.Front.{lines-front}
 use Rattle.report.proofs.put_job.Statement.{statement}
 use Rattle.report.proofs.put_job.Tie as tie
 use Rattle.report.proofs.put_job.Reads as reads
 use Rattle.report.proofs.put_job.Lts as lts
-use Rattle.report.proofs.line.put_lines.Reads as put-lines-reads
-use Rattle.report.proofs.line.put_refusal.Reads as put-refusal-reads
-use Rattle.report.proofs.put.put.Reads as put-reads
+use Rattle.lines.proofs.put_lines.Reads as put-lines-reads
+use Rattle.text.proofs.put_refusal.Reads as put-refusal-reads
+use Rattle.text.proofs.put.Reads as put-reads
 
 enum-told : tie.Need-enum-told
 enum-told c = search needs

@@ -10,7 +10,8 @@ use Rattle.checks.specs.declared.Answer.the-variants.{Taken}
 use Rattle.checks.specs.Checks.{first, verdict}
 use Rattle.settings.specs.declared.Settings.{Settings}
 use Rattle.update.specs.declared.Updated.{Updated}
-use Rattle.update.specs.Update.{updateChecks, resulting, updateOf}
+use Rattle.fields.specs.Fields.{resulting}
+use Rattle.update.specs.Update.{updateChecks, updateOf}
 use Rattle.record.proofs.Fields.{high-bits}
 use Rattle.update.proofs.update.Statement.{statement}
 use Rattle.update.proofs.update.Tie as tie

@@ -9,8 +9,8 @@ use Rattle.board.proofs.Board.start.Tie as tie
 returns : tie.Need-returns
 unfolding startOf verdict
 returns c =
-    let t = c .before .before in
-    rw (c .leaves .ensures, c .before .begun .ensures, t .then .ensures, t .before .check-sound .ensures, t .before .before .when .ensures, first-taken)
+    let t = c .before in
+    rw (c .leaves .ensures, t .then .ensures, t .before .check-sound .ensures, t .before .before .before .when .ensures, first-taken)
 
 pub start-spec : {M : Type 1} → statement M
-start-spec = tie.close (tie.spec (λ c κs. search needs) (λ c κs. search needs) (λ c κs. search needs) (λ c κs. search needs) (λ c κs. search needs) returns)
+start-spec = tie.close (tie.spec (λ c κs. search needs) (λ c κs. search needs) (λ c κs. search needs) (λ c κs. search needs) returns)

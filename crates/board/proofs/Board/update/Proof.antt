@@ -22,12 +22,12 @@ only-taken (Refused x) r b new old = refl
 returns : tie.Need-returns
 unfolding updateOf SettingsUpdate.updateOf verdict
 returns c =
-    let t = c .before .before in
+    let t = c .before in
     let u = t .before .before .before in
     let b = u .before .before .before .args .self in
     let bytes = now (u .before .before .before .args .bytes) in
-    rw (c .leaves .ensures, c .before .with-waiting .ensures, t .then .ensures, t .before .check-sound .ensures, u .update .ensures)
+    rw (c .leaves .ensures, t .then .ensures, t .before .check-sound .ensures, u .update .ensures)
     (only-taken (unsound b) (SettingsUpdate.updateOf (b .waiting) bytes .answer) b (SettingsUpdate.resulting bytes (b .waiting)) (b .waiting))
 
 pub update-spec : {M : Type 1} → statement M
-update-spec = tie.close (tie.spec (λ c κs. search needs) (λ c κs. search needs) (λ c κs. search needs) (λ c κs. search needs) (λ c κs. search needs) returns)
+update-spec = tie.close (tie.spec (λ c κs. search needs) (λ c κs. search needs) (λ c κs. search needs) (λ c κs. search needs) returns)

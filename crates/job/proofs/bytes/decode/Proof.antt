@@ -7,7 +7,7 @@ use native.Mathlib.Omega.{arith}
 use denote.Ref.{now}
 use lib.ListN.{length, take, length-set}
 use lib.Seq.{take-suc, take-suc-set, take-all}
-use Rattle.job.specs.Input.{pairs}
+use Rattle.input.specs.Input.{pairs}
 use Rattle.job.proofs.Pairs.{pairs-at, pairs-length}
 use Rattle.job.proofs.bytes.decode.Statement.{statement}
 use Rattle.job.proofs.bytes.decode.Tie as tie

@@ -12,10 +12,12 @@ use lib.ListN.{length, take, drop, replicate, length-append}
 use lib.Seq.{length-take-le, take-at}
 use Rattle.checks.specs.declared.Answer.the-variants.{Taken}
 use Rattle.checks.specs.Checks.{verdict}
-use Rattle.frame.specs.Chain.{started, frameAnswer, frameWords}
-use Rattle.job.specs.Input.{pairs, readingsAt, maxPixels, maxReadings}
-use Rattle.job.specs.Job.{inputChecks, jobAnswer}
-use Rattle.job.proofs.Pairs.{record-part, bytes-length, readings-part}
+use Rattle.begin.specs.Begun.{started}
+use Rattle.chain.specs.Chain.{frameAnswer, frameWords}
+use Rattle.input.specs.Input.{pairs, readingsAt, maxPixels, maxReadings}
+use Rattle.input.specs.Checks.{inputChecks}
+use Rattle.job.specs.Job.{jobAnswer}
+use Rattle.job.proofs.Pairs.{record-part, bytes-length, readings-part, Lies, lies}
 use Rattle.job.proofs.Jobs.{wordsOf, Handed, handed, few-words, zeros, firstReadings, answer-is, turned-down, carried}
 use Rattle.job.proofs.run.carry_out.Statement.{statement}
 use Rattle.job.proofs.run.carry_out.Tie as tie
@@ -60,8 +62,8 @@ module _ (c : tie.After-least3) where
   start-is : start ≡ min (readingsAt bytes) (length bytes)
   start-is = c .before .least2 .ensures ∙ rw (c .before .before .byte2 .ensures)
 
-  fed-fits : fed ≤ maxReadings
-  fed-fits = omega (arith, c .least3 .ensures)
+  places : Lies (length bytes) from start fed
+  places = lies (length bytes) (c .before .before .byte2 .result) from start fed (c .before .before .byte2 .ok) (c .before .before .before .least .ensures) (c .before .least2 .ensures) (c .least3 .ensures)
 
   pixels-fit : pixels ≤ maxPixels
   pixels-fit = few (c .before .before .before .before .before)
@@ -70,12 +72,12 @@ module _ (c : tie.After-least3) where
   count-fits = rw (c .before .before .before .before .word-count .ensures) (few-words flag pixels pixels-fit)
 
   fed-zeros : length (take fed noReadings) ≡ fed
-  fed-zeros = length-take-le fed noReadings fed-fits
+  fed-zeros = length-take-le fed noReadings (places .few)
 
 -- the readings as they are decoded
 module _ (c : tie.After-decode) where
   abbrev d : tie.After-least3
-  d = c .before .before .before
+  d = c .before .before .before .before
 
   abbrev decoded : List ℕ
   decoded = c .decode .last .1 .0
@@ -94,11 +96,11 @@ module _ (c : tie.After-decode) where
 
 -- the frame's answer and words
 module _ (c : tie.After-frame-of) where
-  abbrev g : tie.After-least3
-  g = c .before .before .before .before .before .before .before .before .before
-
   abbrev r : tie.After-decode
-  r = c .before .before .before .before .before .before
+  r = c .before .before .before .before .before
+
+  abbrev g : tie.After-least3
+  g = r .before .before .before .before
 
   hands : Handed
       (bytes g)
@@ -130,19 +132,19 @@ mul-pixels : tie.Need-mul-pixels
 mul-pixels c = omega (arith, few c)
 
 slice-aggregate-decode : tie.Need-slice-aggregate-decode
-slice-aggregate-decode c = sym (fed-zeros (c .before .before))
+slice-aggregate-decode c = sym (fed-zeros (c .before .before .before))
 
 decode-requires : tie.Need-decode-requires
 decode-requires c κs =
-    let d = c .before .before in
+    let d = c .before .before .before in
     let l = bytes-length (bytes d) (start d) (fed d) (start-is d) (d .least3 .ensures) in
-    (rw (l, fed-zeros d) (omega arith), rw l (omega (arith, fed-fits d)))
+    (rw (l, fed-zeros d) (omega arith), rw l (omega (arith, places d .few)))
 
 array-share-prefix-readings : tie.Need-array-share-prefix-readings
-array-share-prefix-readings c = reach (c .before .before)
+array-share-prefix-readings c = reach (c .before)
 
 slice-aggregate-frame-of : tie.Need-slice-aggregate-frame-of
-slice-aggregate-frame-of c = sym (length-take-le _ _ (reach (c .before .before .before)))
+slice-aggregate-frame-of c = sym (length-take-le _ _ (reach (c .before .before)))
 
 array-borrow-prefix-sums : tie.Need-array-borrow-prefix-sums
 array-borrow-prefix-sums c = pixels-fit (c .before .before .before .before .before .before)
@@ -158,15 +160,15 @@ slice-aggregate-frame-of-3 c = sym (length-take-le _ noWords (count-fits (c .bef
 
 returns : tie.Need-returns
 returns c total t =
-    let f = c .before .before .before .before .before .before .before in
+    let f = c .before .before .before .before .before .before in
     let e = hands f in
     let k = g f in
     carried (bytes k) total _ _ _ _ _ _
     (job-answer f total t)
-    (c .before .before .before .enum-told .given .1)
+    (c .before .before .enum-told .given .1)
     (job-words f)
     (f .frame-of .kept .1 .1 .1 .1 .1 .1 .0 ∙ length-take-le (count k) noWords (count-fits k))
-    (c .before .before .columns .ensures ∙ handed (λ w h binned part readings sums words. cond binned (w / 2) w) e)
+    (c .before .columns .ensures ∙ handed (λ w h binned part readings sums words. cond binned (w / 2) w) e)
     (c .truncation .ensures ∙ handed (λ w h binned part readings sums words. started w h binned part .board .«in_force» .truncation) e)
 
 returns-2 : tie.Need-returns-2
@@ -193,17 +195,17 @@ carry-out-spec =
     (λ c κs. search needs)
     (λ c. search needs)
     (λ c κs. search needs)
-    (λ c. search needs)
-    (λ c. search needs)
-    (λ c. search needs)
-    (λ c. search needs)
-    (λ c. search needs)
-    (λ c. search needs)
+    (λ c. places c .ordered)
+    (λ c. places c .ordered)
+    (λ c. places c .start-in)
+    (λ c. places (c .before) .size-fits)
+    (λ c. places (c .before) .end-fits)
+    (λ c. places (c .before) .end-after)
+    (λ c. places (c .before) .end-after)
+    (λ c. places (c .before) .end-in)
+    (λ c. places (c .before .before) .few)
     slice-aggregate-decode
     decode-requires
-    (λ c. search needs)
-    (λ c. search needs)
-    (λ c. search needs)
     array-share-prefix-readings
     slice-aggregate-frame-of
     array-borrow-prefix-sums
@@ -211,13 +213,10 @@ carry-out-spec =
     array-borrow-prefix-words
     slice-aggregate-frame-of-3
     (λ c κs. search needs)
-    (λ c. search needs)
+    (λ c. c .match .keys1)
     (λ c κs. search needs)
-    (λ c. search needs)
-    (λ c. search needs)
-    (λ c. search needs)
     (λ c κs. search needs)
-    (λ c. search needs)
+    (λ c. c .match .keys2)
     (λ c κs. search needs)
     returns
     returns-2)

@@ -1,7 +1,8 @@
 -- `job::run::run` meets its contract.
 use mathlib.Core.Path.{sym, _∙_}
 use denote.Ref.{now}
-use Rattle.job.proofs.Jobs.{few-pixels, answer-is, turned-down}
+use Rattle.input.proofs.Checking.{few-pixels}
+use Rattle.job.proofs.Jobs.{answer-is, turned-down}
 use borrow.Author.Needs.{needs}
 use Rattle.job.proofs.run.run.Statement.{statement}
 use Rattle.job.proofs.run.run.Tie as tie

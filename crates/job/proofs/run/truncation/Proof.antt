@@ -4,7 +4,7 @@ use Rattle.job.proofs.run.truncation.Statement.{statement}
 use Rattle.job.proofs.run.truncation.Tie as tie
 
 returns : tie.Need-returns
-returns c = rw (c .start .ensures, c .before .before .update .ensures, c .before .before .before .before .«open» .ensures)
+returns c = rw (c .begin .ensures)
 
 pub truncation-spec : {M : Type 1} → statement M
-truncation-spec = tie.close (tie.spec (λ c κs. search needs) (λ c κs. search needs) (λ c κs. search needs) returns)
+truncation-spec = tie.close (tie.spec (λ c κs. search needs) returns)

@@ -1,0 +1,2 @@
+-- The board that Open, Update and Start leave.
+pub mod Beginning

@@ -1,0 +1,3 @@
+-- What a frame's checks come to.
+pub mod Whole
+pub mod Enough

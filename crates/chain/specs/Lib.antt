@@ -1,0 +1,2 @@
+-- The whole chain of a frame.
+pub mod Chain

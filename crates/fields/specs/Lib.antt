@@ -1,0 +1,2 @@
+-- The fields of a record.
+pub mod Fields

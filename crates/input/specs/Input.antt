@@ -1,0 +1,47 @@
+-- The bytes of a job: width and height, two bytes each, low byte first; binned, 0 or 1; the length of the record; the record; then the readings, two bytes each,
+-- low byte first. A byte past the end reads as 0.
+use Prim.Native.Nat.{ℕ, _+_, _*_}
+use mathlib.Core.Bool.{Bool}
+use mathlib.Core.List.{List, [], _∷_}
+use lib.Dec.{eqb}
+use lib.ListN.{getD, take, drop}
+use Rattle.record.specs.Record.{pairAt}
+
+abbrev pub widthOf : List ℕ → ℕ
+widthOf bytes = pairAt bytes 0
+
+abbrev pub heightOf : List ℕ → ℕ
+heightOf bytes = pairAt bytes 2
+
+abbrev pub binnedByte : List ℕ → ℕ
+binnedByte bytes = getD bytes 4 0
+
+abbrev pub isBinned : List ℕ → Bool
+isBinned bytes = eqb (binnedByte bytes) 1
+
+abbrev pub recordLength : List ℕ → ℕ
+recordLength bytes = getD bytes 5 0
+
+abbrev pub recordOf : List ℕ → List ℕ
+recordOf bytes = take (recordLength bytes) (drop 6 bytes)
+
+-- where the readings start
+abbrev pub readingsAt : List ℕ → ℕ
+readingsAt bytes = 6 + recordLength bytes
+
+-- the numbers of a list of bytes, two bytes each
+unfoldable pub pairs : List ℕ → List ℕ
+pairs [] = []
+pairs (low ∷ []) = []
+pairs (low ∷ high ∷ bytes) = (low + 256 * high) ∷ pairs bytes
+
+abbrev pub readingsOf : List ℕ → List ℕ
+readingsOf bytes = pairs (drop (readingsAt bytes) bytes)
+
+-- the most pixels of a job
+abbrev pub maxPixels : ℕ
+maxPixels = 1024
+
+-- one reading more than the largest job wants
+abbrev pub maxReadings : ℕ
+maxReadings = 9 * maxPixels + 1

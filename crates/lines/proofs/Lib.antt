@@ -1,0 +1,2 @@
+-- Lines of the first words.
+pub mod Front

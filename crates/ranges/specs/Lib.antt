@@ -1,0 +1,2 @@
+-- The range of each setting.
+pub mod Ranges

@@ -1,0 +1,2 @@
+-- What the sides that Open takes are, part by part.
+pub mod Parts

@@ -1,0 +1,2 @@
+-- The sides of a board.
+pub mod Sides

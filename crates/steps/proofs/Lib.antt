@@ -1,0 +1,2 @@
+-- Chains that begin with Open, Update and Start.
+pub mod Stepping

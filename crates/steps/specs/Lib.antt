@@ -1,0 +1,2 @@
+-- Single steps of a frame.
+pub mod Steps
