@@ -1,11 +1,11 @@
 // What a replay prints.
+use crate::print::number;
+use crate::print::refusal;
+use crate::print::signed;
+use crate::print::text;
 use board::Board;
 use board::Coverage;
 use checks::Answer;
-use print::number;
-use print::refusal;
-use print::signed;
-use print::text;
 use settings::Settings;
 
 pub(crate) fn taken() {

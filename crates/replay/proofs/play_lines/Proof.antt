@@ -1,0 +1,33 @@
+-- `replay::play_lines` is safe and ends.
+use Prim.Native.Nat.{_-_}
+use native.Mathlib.Omega.{arith}
+use lib.ListN.{length}
+use Rattle.replay.proofs.play_lines.Statement.{statement}
+use Rattle.replay.proofs.play_lines.Tie as tie
+
+abbrev Inv-loop : tie.InvT-loop
+Inv-loop script list₀ sums₀ spare₀ board₀ lent₀ at₀ list sums spare board lent at = Unit {0}
+
+abbrev μ-loop : tie.MeasureT-loop
+μ-loop script list₀ sums₀ spare₀ board₀ lent₀ at₀ list sums spare board lent at = length script - at
+
+pub play-lines-spec : {M : Type 1} → statement M
+play-lines-spec =
+    tie.close
+    (tie.spec
+    Inv-loop
+    μ-loop
+    (λ c κs. omega arith)
+    (λ c. omega arith)
+    (λ c κs. omega arith)
+    (λ c. omega arith)
+    (λ c. omega arith)
+    (λ c. omega arith)
+    (λ c κs. omega arith)
+    (λ c κs. omega arith)
+    (λ c κs. omega arith)
+    (λ c κs. omega arith)
+    (λ c. omega arith)
+    (λ c. omega arith)
+    (λ c. omega arith)
+    (λ c. omega arith))
