@@ -1,9 +1,5 @@
 // The commands of a script, played on a board and on the sums that are lent.
-ghost use mathlib.Core.Path.{_≡_};
 ghost use Prim.Native.Nat.{_≤_};
-ghost use lib.ListN.{length};
-use crate::print::meaning;
-use crate::print::text;
 use crate::show;
 use acquisition::feed::feed;
 use acquisition::read_out::read_out;
@@ -13,39 +9,11 @@ use checks::Answer;
 use meaning::read_word;
 use script::commands::Command;
 use script::numbers::Numbers;
-use script::numbers::byte;
-use script::numbers::entry;
-use script::numbers::natural;
-use script::numbers::small;
+use script::numbers::bytes_of;
+use script::numbers::readings_of;
 
-// A buffer of sums; a script says how many of its entries are the sums.
+// A buffer of sums: its first entries are the sums.
 pub(crate) type Sums = [i32; 4096];
-
-// How long the sums are that are lent, how long the others, and whether the spare buffer holds them.
-pub(crate) struct Lent {
-    pub(crate) length: usize,
-    pub(crate) other: usize,
-    pub(crate) spare: bool,
-}
-
-impl Lent {
-    // `sums` gives the sums another length, and `swap` lends the others.
-    pub(crate) fn after(self, command: Command, list: &Numbers) -> Lent {
-        match command {
-            Command::Sums => Lent {
-                length: natural(list[0]),
-                other: self.other,
-                spare: self.spare,
-            },
-            Command::Swap => Lent {
-                length: self.other,
-                other: self.length,
-                spare: !self.spare,
-            },
-            _ => self,
-        }
-    }
-}
 
 fn least(a: usize, b: usize) -> usize
     ensures { λ r. ⌜ r ≤ b ⌝ }
@@ -73,32 +41,6 @@ fn open(board: Board, width: usize, height: usize, binned: bool) -> Board {
             board: board,
         }),
     }
-}
-
-// The items of a list, as the bytes of a record.
-fn bytes_of(list: &Numbers) -> [u8; 4096]
-    ensures { λ r. ⌜ 4096 ≡ length r ⌝ }
-{
-    let mut bytes = [0; 4096];
-    let mut i = 0;
-    while i < 4096 {
-        bytes[i] = byte(list[i + 1]);
-        i += 1;
-    }
-    bytes
-}
-
-// The items of a list, as readings.
-fn readings_of(list: &Numbers) -> [u16; 4096]
-    ensures { λ r. ⌜ 4096 ≡ length r ⌝ }
-{
-    let mut readings = [0; 4096];
-    let mut i = 0;
-    while i < 4096 {
-        readings[i] = small(list[i + 1]);
-        i += 1;
-    }
-    readings
 }
 
 // Update with the first bytes.
@@ -148,52 +90,41 @@ fn print_sums(start: usize, count: usize, sums: &[i32]) {
     }
 }
 
-fn word(word: u16, truncation: u16) {
-    meaning(read_word(word, truncation));
-    text(b"\n");
-}
-
-// A command that is no call on a board.
-fn aside(command: Command, list: &Numbers, sums: &mut [i32]) {
-    let first = natural(list[0]);
+// A command that leaves the board as it is.
+fn aside(board: Board, command: Command, sums: &mut [i32]) {
     match command {
-        Command::Word => word(small(list[0]), small(list[1])),
-        Command::Poke => poke(first, entry(list[1]), sums),
-        Command::Swap => show::taken(),
-        Command::PrintSums => print_sums(first, natural(list[1]), sums),
+        Command::Covered => show::coverage(board.covered()),
+        Command::Word { word, truncation } => show::meaning(read_word(word, truncation)),
+        Command::Poke { index, entry } => poke(index, entry, sums),
+        Command::PrintSums { start, count } => print_sums(start, count, sums),
         _ => {}
     }
 }
 
-// A command on the sums.
+// A command on the sums. The list has the bytes of an update and the readings of a feed.
 fn call(board: Board, command: Command, list: &Numbers, sums: &mut [i32]) -> Board {
-    let first = natural(list[0]);
     match command {
-        Command::Open => open(board, first, natural(list[1]), list[2] == 1),
-        Command::Update => {
+        Command::Open {
+            width,
+            height,
+            binned,
+        } => open(board, width, height, binned),
+        Command::Update(count) => {
             let bytes = bytes_of(list);
-            update(board, &bytes, first)
+            update(board, &bytes, count)
         }
         Command::Start => after(board.start()),
-        Command::Feed => {
-            let readings = readings_of(list);
-            feed_some(board, &readings, first, sums)
+        Command::Feed { count, same } => {
+            let readings = readings_of(list, same);
+            feed_some(board, &readings, count, sums)
         }
-        Command::Fill => {
-            let readings = [small(list[1]); 4096];
-            feed_some(board, &readings, first, sums)
-        }
-        Command::ReadOut => {
+        Command::ReadOut(count) => {
             let mut words = [0; 4096];
-            frame(board, sums, &mut words, first)
+            frame(board, sums, &mut words, count)
         }
         Command::Drop => after(board.drop()),
-        Command::Covered => {
-            show::coverage(board.covered());
-            board
-        }
         _ => {
-            aside(command, list, sums);
+            aside(board, command, sums);
             board
         }
     }
@@ -211,20 +142,81 @@ fn call_on(
     call(board, command, list, &mut buffer[..n])
 }
 
-// Plays a command with its numbers, and gives the board that it leaves.
-pub(crate) fn play(
+// The board, the lengths of the sums that are lent and of the others, and whether the spare buffer is lent.
+pub(crate) struct Player {
     board: Board,
-    command: Command,
-    list: &Numbers,
     length: usize,
-    sums: &mut Sums,
-) -> Board {
-    match command {
-        Command::Sums => {
-            *sums = [entry(list[1]); 4096];
-            show::taken();
-            board
+    other: usize,
+    spare: bool,
+}
+
+impl Player {
+    // No board is open, and the sums are empty.
+    pub(crate) fn first() -> Player {
+        let none = Board::open(0, 0, false);
+        let board = none.board;
+        Player {
+            board: board,
+            length: 0,
+            other: 0,
+            spare: false,
         }
-        _ => call_on(board, command, list, length, sums),
+    }
+
+    // A command on the buffer that is lent. `sums` gives it one entry everywhere, and the sums another length.
+    fn play_on(self, command: Command, list: &Numbers, buffer: &mut Sums) -> Player {
+        let mut board = self.board;
+        let mut length = self.length;
+        match command {
+            Command::Sums {
+                length: count,
+                entry,
+            } => {
+                *buffer = [entry; 4096];
+                length = count;
+                show::taken();
+            }
+            _ => {
+                board = call_on(board, command, list, length, buffer);
+            }
+        }
+        Player {
+            board: board,
+            length: length,
+            other: self.other,
+            spare: self.spare,
+        }
+    }
+
+    // The other buffer is lent.
+    fn swapped(self) -> Player {
+        let board = self.board;
+        show::taken();
+        Player {
+            board: board,
+            length: self.other,
+            other: self.length,
+            spare: !self.spare,
+        }
+    }
+
+    // Plays a command.
+    pub(crate) fn play(
+        self,
+        command: Command,
+        list: &Numbers,
+        sums: &mut Sums,
+        spare: &mut Sums,
+    ) -> Player {
+        match command {
+            Command::Swap => self.swapped(),
+            _ => {
+                if self.spare {
+                    self.play_on(command, list, spare)
+                } else {
+                    self.play_on(command, list, sums)
+                }
+            }
+        }
     }
 }

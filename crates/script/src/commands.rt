@@ -1,78 +1,49 @@
-// The commands of a script, and the numbers that each of them takes.
+// The commands of a script, each with its numbers. The bytes of an update and the readings of a feed stay in the list.
 use crate::numbers::Numbers;
+use crate::numbers::entry;
 use crate::numbers::item;
 use crate::numbers::natural;
+use crate::numbers::small;
 use check::same;
 
 pub enum Command {
-    Open,
-    Update,
+    Open {
+        width: usize,
+        height: usize,
+        binned: bool,
+    },
+    Update(usize),
     Start,
-    Feed,
-    Fill,
-    ReadOut,
+    Feed {
+        count: usize,
+        same: bool,
+    },
+    ReadOut(usize),
     Drop,
     Covered,
-    Word,
-    Sums,
-    Poke,
+    Word {
+        word: u16,
+        truncation: u16,
+    },
+    Sums {
+        length: usize,
+        entry: i32,
+    },
+    Poke {
+        index: usize,
+        entry: i32,
+    },
     Swap,
-    PrintSums,
+    PrintSums {
+        start: usize,
+        count: usize,
+    },
     Nothing,
     Malformed,
 }
 
 // The most entries of the sums, readings of a feed, bytes of a record and words of an output.
 const MOST: i64 = 4096;
-
-// The commands that are a board's own.
-fn operation(word: &[u8]) -> Command {
-    if same(word, b"open") {
-        Command::Open
-    } else if same(word, b"update") {
-        Command::Update
-    } else if same(word, b"start") {
-        Command::Start
-    } else if same(word, b"feed") {
-        Command::Feed
-    } else if same(word, b"readout") {
-        Command::ReadOut
-    } else if same(word, b"drop") {
-        Command::Drop
-    } else if same(word, b"covered") {
-        Command::Covered
-    } else {
-        Command::Malformed
-    }
-}
-
-// The others.
-fn other(word: &[u8]) -> Command {
-    if same(word, b"fill") {
-        Command::Fill
-    } else if same(word, b"word") {
-        Command::Word
-    } else if same(word, b"sums") {
-        Command::Sums
-    } else if same(word, b"poke") {
-        Command::Poke
-    } else if same(word, b"swap") {
-        Command::Swap
-    } else if same(word, b"print sums") {
-        Command::PrintSums
-    } else {
-        Command::Malformed
-    }
-}
-
-// The command of a word.
-pub(crate) fn named(word: &[u8]) -> Command {
-    let found = operation(word);
-    match found {
-        Command::Malformed => other(word),
-        _ => found,
-    }
-}
 
 fn within(n: i64, low: i64, high: i64) -> bool {
     (low <= n) & (n <= high)
@@ -110,21 +81,133 @@ fn is_list(list: &Numbers, count: usize, highest: i64) -> bool {
     true
 }
 
-// Whether a command takes the first `count` numbers of the list.
-pub(crate) fn takes(command: Command, list: &Numbers, count: usize) -> bool {
-    match command {
-        Command::Open => {
-            (count == 3) & is_16_bit(list[0]) & is_16_bit(list[1]) & within(list[2], 0, 1)
+// A command, if its numbers are as they should be.
+fn if_taken(taken: bool, command: Command) -> Command {
+    if taken { command } else { Command::Malformed }
+}
+
+fn fill(count: i64, reading: i64) -> Command {
+    if_taken(
+        is_count(count) & is_16_bit(reading),
+        Command::Feed {
+            count: natural(count),
+            same: true,
+        },
+    )
+}
+
+fn read_word(word: i64, truncation: i64) -> Command {
+    if_taken(
+        is_16_bit(word) & within(truncation, 0, 255),
+        Command::Word {
+            word: small(word),
+            truncation: small(truncation),
+        },
+    )
+}
+
+fn sums(length: i64, value: i64) -> Command {
+    if_taken(
+        is_count(length) & is_entry(value),
+        Command::Sums {
+            length: natural(length),
+            entry: entry(value),
+        },
+    )
+}
+
+fn poke(index: i64, value: i64) -> Command {
+    if_taken(
+        within(index, 0, MOST - 1) & is_entry(value),
+        Command::Poke {
+            index: natural(index),
+            entry: entry(value),
+        },
+    )
+}
+
+fn print_sums(start: i64, count: i64) -> Command {
+    if_taken(
+        is_count(start) & is_count(count),
+        Command::PrintSums {
+            start: natural(start),
+            count: natural(count),
+        },
+    )
+}
+
+// The commands that take no number.
+fn with_none(word: &[u8]) -> Command {
+    if same(word, b"start") {
+        Command::Start
+    } else if same(word, b"drop") {
+        Command::Drop
+    } else if same(word, b"covered") {
+        Command::Covered
+    } else if same(word, b"swap") {
+        Command::Swap
+    } else {
+        Command::Malformed
+    }
+}
+
+// The command that takes one number.
+fn with_one(word: &[u8], words: i64) -> Command {
+    if_taken(
+        same(word, b"readout") & is_count(words),
+        Command::ReadOut(natural(words)),
+    )
+}
+
+// The commands that take two numbers.
+fn with_two(word: &[u8], first: i64, second: i64) -> Command {
+    if same(word, b"fill") {
+        fill(first, second)
+    } else if same(word, b"word") {
+        read_word(first, second)
+    } else if same(word, b"sums") {
+        sums(first, second)
+    } else if same(word, b"poke") {
+        poke(first, second)
+    } else if same(word, b"print sums") {
+        print_sums(first, second)
+    } else {
+        Command::Malformed
+    }
+}
+
+// The command that takes three numbers.
+fn with_three(word: &[u8], width: i64, height: i64, binned: i64) -> Command {
+    if_taken(
+        same(word, b"open") & is_16_bit(width) & is_16_bit(height) & within(binned, 0, 1),
+        Command::Open {
+            width: natural(width),
+            height: natural(height),
+            binned: binned == 1,
+        },
+    )
+}
+
+// The command of a word that takes the first `count` numbers of the list.
+pub(crate) fn named(word: &[u8], list: &Numbers, count: usize) -> Command {
+    let first = list[0];
+    if same(word, b"update") {
+        if_taken(is_list(list, count, 255), Command::Update(natural(first)))
+    } else if same(word, b"feed") {
+        if_taken(
+            is_list(list, count, 65535),
+            Command::Feed {
+                count: natural(first),
+                same: false,
+            },
+        )
+    } else {
+        match count {
+            0 => with_none(word),
+            1 => with_one(word, first),
+            2 => with_two(word, first, list[1]),
+            3 => with_three(word, first, list[1], list[2]),
+            _ => Command::Malformed,
         }
-        Command::Update => is_list(list, count, 255),
-        Command::Feed => is_list(list, count, 65535),
-        Command::Fill => (count == 2) & is_count(list[0]) & is_16_bit(list[1]),
-        Command::ReadOut => (count == 1) & is_count(list[0]),
-        Command::Word => (count == 2) & is_16_bit(list[0]) & within(list[1], 0, 255),
-        Command::Sums => (count == 2) & is_count(list[0]) & is_entry(list[1]),
-        Command::Poke => (count == 2) & within(list[0], 0, MOST - 1) & is_entry(list[1]),
-        Command::PrintSums => (count == 2) & is_count(list[0]) & is_count(list[1]),
-        Command::Start | Command::Drop | Command::Covered | Command::Swap => count == 0,
-        Command::Nothing | Command::Malformed => false,
     }
 }

@@ -1,9 +1,9 @@
 // A script of calls on a board: its lines, and what each of them says.
+ghost use mathlib.Core.Path.{_≡_};
 ghost use Prim.Native.Nat.{_≤_};
-ghost use lib.ListN.{length};
+ghost use lib.ListN.{length, take};
 use crate::commands::Command;
 use crate::commands::named;
-use crate::commands::takes;
 use crate::numbers::Numbers;
 use crate::numbers::numbers;
 use bytes::scan::find;
@@ -15,7 +15,7 @@ pub mod numbers;
 
 // Where the word of a line ends.
 fn word_end(line: &[u8]) -> usize
-    ensures { λ r. ⌜ r ≤ length (now (line .entry)) ⌝ }
+    ensures { λ r. ⌜ (r ≤ length (now (line .entry))) × (r ≡ length (take r (now (line .entry)))) ⌝ }
 {
     let count = line.len();
     if count >= 10 {
@@ -29,16 +29,9 @@ fn word_end(line: &[u8]) -> usize
 // The command of a line that has one; its numbers go into the list.
 fn command(line: &[u8], list: &mut Numbers) -> Command {
     let end = word_end(line);
-    let command = named(&line[..end]);
     let found = numbers(line, end, list);
     match found {
-        Found::At(count) => {
-            if takes(command, list, count) {
-                command
-            } else {
-                Command::Malformed
-            }
-        }
+        Found::At(count) => named(&line[..end], list, count),
         Found::Nothing => Command::Malformed,
     }
 }

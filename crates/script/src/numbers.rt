@@ -1,4 +1,5 @@
 // The numbers of a line.
+ghost use mathlib.Core.Path.{_≡_};
 ghost use Prim.Native.Nat.{_≤_};
 ghost use lib.ListN.{length};
 use checks::Found;
@@ -73,24 +74,24 @@ fn with_sign(value: u64, negative: bool) -> i64
 }
 
 // A number that is not negative; 0 for one that is.
-pub fn natural(n: i64) -> usize {
+pub(crate) fn natural(n: i64) -> usize {
     if n < 0 { 0 } else { n as usize }
 }
 
 // A number of 16 bits; 0 for any other.
-pub fn small(n: i64) -> u16 {
+pub(crate) fn small(n: i64) -> u16 {
     let m = natural(n);
     if m <= 65535 { m as u16 } else { 0 }
 }
 
 // A byte; 0 for any other number.
-pub fn byte(n: i64) -> u8 {
+fn byte(n: i64) -> u8 {
     let m = natural(n);
     if m <= 255 { m as u8 } else { 0 }
 }
 
 // A number of 32 bits with a sign; 0 for any other.
-pub fn entry(n: i64) -> i32 {
+pub(crate) fn entry(n: i64) -> i32 {
     if n < -2147483648 {
         0
     } else if n <= 2147483647 {
@@ -101,7 +102,7 @@ pub fn entry(n: i64) -> i32 {
 }
 
 // The number at a place of a list; 0 past its end.
-pub fn item(list: &Numbers, i: usize) -> i64 {
+pub(crate) fn item(list: &Numbers, i: usize) -> i64 {
     if i < COUNT { list[i] } else { 0 }
 }
 
@@ -119,7 +120,7 @@ fn after_sign(line: &[u8], at: usize) -> usize
 }
 
 // Puts a line's numbers from a place on into the list, and answers how many there are, if each stands after one space and the list holds them.
-pub fn numbers(line: &[u8], from: usize, list: &mut Numbers) -> Found {
+pub(crate) fn numbers(line: &[u8], from: usize, list: &mut Numbers) -> Found {
     let mut count = 0;
     let mut at = from;
     while at < line.len() {
@@ -140,4 +141,31 @@ pub fn numbers(line: &[u8], from: usize, list: &mut Numbers) -> Found {
         at = end;
     }
     Found::At(count)
+}
+
+// The items of a list, as the bytes of a record.
+pub fn bytes_of(list: &Numbers) -> [u8; 4096]
+    ensures { λ r. ⌜ 4096 ≡ length r ⌝ }
+{
+    let mut bytes = [0; 4096];
+    let mut i = 0;
+    while i < 4096 {
+        bytes[i] = byte(list[i + 1]);
+        i += 1;
+    }
+    bytes
+}
+
+// The items of a list, as readings, or its first item each time.
+pub fn readings_of(list: &Numbers, same: bool) -> [u16; 4096]
+    ensures { λ r. ⌜ 4096 ≡ length r ⌝ }
+{
+    let mut readings = [0; 4096];
+    let mut i = 0;
+    while i < 4096 {
+        let at = if same { 1 } else { i + 1 };
+        readings[i] = small(item(list, at));
+        i += 1;
+    }
+    readings
 }

@@ -9,6 +9,12 @@ use Rattle.script.proofs.word_end.Tie as tie
 slice-aggregate-same : tie.Need-slice-aggregate-same
 slice-aggregate-same c = sym (length-take-le 10 (c .before .before .before .args .line .now) (omega arith))
 
+returns : tie.Need-returns
+returns c = (omega arith, sym (length-take-le 10 (c .before .before .before .before .before .before .args .line .now) (omega arith)))
+
+returns-2 : tie.Need-returns-2
+returns-2 c = (omega arith, sym (length-take-le _ _ (omega arith)))
+
 pub word-end-spec : {M : Type 1} → statement M
 word-end-spec =
     tie.close
@@ -16,6 +22,6 @@ word-end-spec =
     slice-aggregate-same
     (λ c. search needs)
     (λ c κs. search needs)
-    (λ c. search needs)
+    returns
     (λ c κs. search needs)
-    (λ c. search needs))
+    returns-2)

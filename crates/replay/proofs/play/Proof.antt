@@ -1,18 +1,18 @@
--- `replay::play_lines` is safe and ends.
+-- `replay::play` is safe and ends.
 use Prim.Native.Nat.{_-_}
 use native.Mathlib.Omega.{arith}
 use lib.ListN.{length}
-use Rattle.replay.proofs.play_lines.Statement.{statement}
-use Rattle.replay.proofs.play_lines.Tie as tie
+use Rattle.replay.proofs.play.Statement.{statement}
+use Rattle.replay.proofs.play.Tie as tie
 
 abbrev Inv-loop : tie.InvT-loop
-Inv-loop script list₀ sums₀ spare₀ board₀ lent₀ at₀ list sums spare board lent at = Unit {0}
+Inv-loop script list₀ sums₀ spare₀ player₀ at₀ list sums spare player at = Unit {0}
 
 abbrev μ-loop : tie.MeasureT-loop
-μ-loop script list₀ sums₀ spare₀ board₀ lent₀ at₀ list sums spare board lent at = length script - at
+μ-loop script list₀ sums₀ spare₀ player₀ at₀ list sums spare player at = length script - at
 
-pub play-lines-spec : {M : Type 1} → statement M
-play-lines-spec =
+pub play-spec : {M : Type 1} → statement M
+play-spec =
     tie.close
     (tie.spec
     Inv-loop
@@ -23,8 +23,6 @@ play-lines-spec =
     (λ c. omega arith)
     (λ c. omega arith)
     (λ c. omega arith)
-    (λ c κs. omega arith)
-    (λ c κs. omega arith)
     (λ c κs. omega arith)
     (λ c κs. omega arith)
     (λ c. omega arith)

@@ -1,31 +1,31 @@
--- `replay::player::bytes_of` is safe and ends.
+-- `script::numbers::readings_of` is safe and ends.
 use Prim.Native.Nat.{_-_, _≤_}
 use mathlib.Core.Path.{_≡_}
 use native.Mathlib.Omega.{arith}
 use lib.ListN.{length, length-set}
-use Rattle.replay.proofs.player.bytes_of.Statement.{statement}
-use Rattle.replay.proofs.player.bytes_of.Tie as tie
+use Rattle.script.proofs.numbers.readings_of.Statement.{statement}
+use Rattle.script.proofs.numbers.readings_of.Tie as tie
 
 abbrev Inv-loop : tie.InvT-loop
-Inv-loop list bytes₀ i₀ bytes i = (i ≤ 4096) × (4096 ≡ length bytes)
+Inv-loop list same readings₀ i₀ readings i = (i ≤ 4096) × (4096 ≡ length readings)
 
 abbrev μ-loop : tie.MeasureT-loop
-μ-loop list bytes₀ i₀ bytes i = 4096 - i
+μ-loop list same readings₀ i₀ readings i = 4096 - i
 
 loop-again : tie.Need-loop-again Inv-loop μ-loop
 loop-again c = (omega arith, rw length-set (omega arith))
 
-pub bytes-of-spec : {M : Type 1} → statement M
-bytes-of-spec =
+pub readings-of-spec : {M : Type 1} → statement M
+readings-of-spec =
     tie.close
     (tie.spec
     Inv-loop
     μ-loop
     (λ c. omega arith)
     (λ c. omega arith)
-    (λ c. omega arith)
-    (λ c. omega arith)
     (λ c κs. omega arith)
+    (λ c κs. omega arith)
+    (λ c. omega arith)
     (λ c. omega arith)
     (λ c. omega arith)
     (λ c. omega arith)
