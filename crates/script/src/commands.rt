@@ -1,9 +1,9 @@
 // The commands of a script, each with its numbers. The bytes of an update and the readings of a feed stay in the list.
+ghost use Rattle.script.specs.Ranges.{InRange};
 use crate::numbers::Numbers;
 use crate::numbers::entry;
 use crate::numbers::item;
 use crate::numbers::natural;
-use crate::numbers::small;
 use check::same;
 
 pub enum Command {
@@ -43,37 +43,19 @@ pub enum Command {
 }
 
 // The most entries of the sums, readings of a feed, bytes of a record and words of an output.
-const MOST: i64 = 4096;
+const MOST: usize = 4096;
 
-fn within(n: i64, low: i64, high: i64) -> bool {
-    (low <= n) & (n <= high)
-}
-
-// A count that isn't above the most.
-fn is_count(n: i64) -> bool {
-    within(n, 0, MOST)
-}
-
-fn is_16_bit(n: i64) -> bool {
-    within(n, 0, 65535)
-}
-
-fn is_entry(n: i64) -> bool {
-    within(n, -2147483648, 2147483647)
-}
-
-// A count, then that many items from 0 to the highest.
-fn is_list(list: &Numbers, count: usize, highest: i64) -> bool {
+// A count, then that many items up to the highest.
+fn is_list(list: &Numbers, count: usize, highest: usize) -> bool {
     if count == 0 {
         return false;
     }
-    let items = list[0];
-    if !is_count(items) | (natural(items) != count - 1) {
+    if natural(list[0]) != count - 1 {
         return false;
     }
     let mut i = 1;
     while i < count {
-        if !within(item(list, i), 0, highest) {
+        if natural(item(list, i)) > highest {
             return false;
         }
         i += 1;
@@ -81,63 +63,118 @@ fn is_list(list: &Numbers, count: usize, highest: i64) -> bool {
     true
 }
 
-// A command, if its numbers are as they should be.
-fn if_taken(taken: bool, command: Command) -> Command {
-    if taken { command } else { Command::Malformed }
+fn is_entry(n: i64) -> bool {
+    (-2147483648 <= n) & (n <= 2147483647)
 }
 
-fn fill(count: i64, reading: i64) -> Command {
-    if_taken(
-        is_count(count) & is_16_bit(reading),
+fn update(list: &Numbers, count: usize) -> Command
+    ensures { λ r. ⌜ InRange r ⌝ }
+{
+    let bytes = natural(list[0]);
+    if bytes > MOST {
+        Command::Malformed
+    } else if is_list(list, count, 255) {
+        Command::Update(bytes)
+    } else {
+        Command::Malformed
+    }
+}
+
+fn feed(list: &Numbers, count: usize) -> Command
+    ensures { λ r. ⌜ InRange r ⌝ }
+{
+    let readings = natural(list[0]);
+    if readings > MOST {
+        Command::Malformed
+    } else if is_list(list, count, 65535) {
         Command::Feed {
-            count: natural(count),
+            count: readings,
+            same: false,
+        }
+    } else {
+        Command::Malformed
+    }
+}
+
+fn fill(count: usize, reading: usize) -> Command
+    ensures { λ r. ⌜ InRange r ⌝ }
+{
+    if count > MOST {
+        Command::Malformed
+    } else if reading > 65535 {
+        Command::Malformed
+    } else {
+        Command::Feed {
+            count: count,
             same: true,
-        },
-    )
+        }
+    }
 }
 
-fn read_word(word: i64, truncation: i64) -> Command {
-    if_taken(
-        is_16_bit(word) & within(truncation, 0, 255),
+fn read_word(word: usize, truncation: usize) -> Command
+    ensures { λ r. ⌜ InRange r ⌝ }
+{
+    if word > 65535 {
+        Command::Malformed
+    } else if truncation > 255 {
+        Command::Malformed
+    } else {
         Command::Word {
-            word: small(word),
-            truncation: small(truncation),
-        },
-    )
+            word: word as u16,
+            truncation: truncation as u16,
+        }
+    }
 }
 
-fn sums(length: i64, value: i64) -> Command {
-    if_taken(
-        is_count(length) & is_entry(value),
+fn sums(length: usize, value: i64) -> Command
+    ensures { λ r. ⌜ InRange r ⌝ }
+{
+    if length > MOST {
+        Command::Malformed
+    } else if is_entry(value) {
         Command::Sums {
-            length: natural(length),
+            length: length,
             entry: entry(value),
-        },
-    )
+        }
+    } else {
+        Command::Malformed
+    }
 }
 
-fn poke(index: i64, value: i64) -> Command {
-    if_taken(
-        within(index, 0, MOST - 1) & is_entry(value),
+fn poke(index: usize, value: i64) -> Command
+    ensures { λ r. ⌜ InRange r ⌝ }
+{
+    if index >= MOST {
+        Command::Malformed
+    } else if is_entry(value) {
         Command::Poke {
-            index: natural(index),
+            index: index,
             entry: entry(value),
-        },
-    )
+        }
+    } else {
+        Command::Malformed
+    }
 }
 
-fn print_sums(start: i64, count: i64) -> Command {
-    if_taken(
-        is_count(start) & is_count(count),
+fn print_sums(start: usize, count: usize) -> Command
+    ensures { λ r. ⌜ InRange r ⌝ }
+{
+    if start > MOST {
+        Command::Malformed
+    } else if count > MOST {
+        Command::Malformed
+    } else {
         Command::PrintSums {
-            start: natural(start),
-            count: natural(count),
-        },
-    )
+            start: start,
+            count: count,
+        }
+    }
 }
 
 // The commands that take no number.
-fn with_none(word: &[u8]) -> Command {
+fn with_none(word: &[u8]) -> Command
+    ensures { λ r. ⌜ InRange r ⌝ }
+{
     if same(word, b"start") {
         Command::Start
     } else if same(word, b"drop") {
@@ -152,61 +189,71 @@ fn with_none(word: &[u8]) -> Command {
 }
 
 // The command that takes one number.
-fn with_one(word: &[u8], words: i64) -> Command {
-    if_taken(
-        same(word, b"readout") & is_count(words),
-        Command::ReadOut(natural(words)),
-    )
+fn with_one(word: &[u8], words: usize) -> Command
+    ensures { λ r. ⌜ InRange r ⌝ }
+{
+    if words > MOST {
+        Command::Malformed
+    } else if same(word, b"readout") {
+        Command::ReadOut(words)
+    } else {
+        Command::Malformed
+    }
 }
 
 // The commands that take two numbers.
-fn with_two(word: &[u8], first: i64, second: i64) -> Command {
+fn with_two(word: &[u8], first: usize, second: i64) -> Command
+    ensures { λ r. ⌜ InRange r ⌝ }
+{
     if same(word, b"fill") {
-        fill(first, second)
+        fill(first, natural(second))
     } else if same(word, b"word") {
-        read_word(first, second)
+        read_word(first, natural(second))
     } else if same(word, b"sums") {
         sums(first, second)
     } else if same(word, b"poke") {
         poke(first, second)
     } else if same(word, b"print sums") {
-        print_sums(first, second)
+        print_sums(first, natural(second))
     } else {
         Command::Malformed
     }
 }
 
 // The command that takes three numbers.
-fn with_three(word: &[u8], width: i64, height: i64, binned: i64) -> Command {
-    if_taken(
-        same(word, b"open") & is_16_bit(width) & is_16_bit(height) & within(binned, 0, 1),
+fn with_three(word: &[u8], width: usize, height: usize, binned: usize) -> Command
+    ensures { λ r. ⌜ InRange r ⌝ }
+{
+    if width > 65535 {
+        Command::Malformed
+    } else if height > 65535 {
+        Command::Malformed
+    } else if (binned <= 1) & same(word, b"open") {
         Command::Open {
-            width: natural(width),
-            height: natural(height),
+            width: width,
+            height: height,
             binned: binned == 1,
-        },
-    )
+        }
+    } else {
+        Command::Malformed
+    }
 }
 
 // The command of a word that takes the first `count` numbers of the list.
-pub(crate) fn named(word: &[u8], list: &Numbers, count: usize) -> Command {
-    let first = list[0];
+pub(crate) fn named(word: &[u8], list: &Numbers, count: usize) -> Command
+    ensures { λ r. ⌜ InRange r ⌝ }
+{
     if same(word, b"update") {
-        if_taken(is_list(list, count, 255), Command::Update(natural(first)))
+        update(list, count)
     } else if same(word, b"feed") {
-        if_taken(
-            is_list(list, count, 65535),
-            Command::Feed {
-                count: natural(first),
-                same: false,
-            },
-        )
+        feed(list, count)
     } else {
+        let first = natural(list[0]);
         match count {
             0 => with_none(word),
             1 => with_one(word, first),
             2 => with_two(word, first, list[1]),
-            3 => with_three(word, first, list[1], list[2]),
+            3 => with_three(word, first, natural(list[1]), natural(list[2])),
             _ => Command::Malformed,
         }
     }

@@ -1,7 +1,9 @@
 // A script of calls on a board: its lines, and what each of them says.
 ghost use mathlib.Core.Path.{_≡_};
-ghost use Prim.Native.Nat.{_≤_};
+ghost use Prim.Native.Nat.{_≤_, max};
 ghost use lib.ListN.{length, take};
+ghost use Rattle.script.specs.Lines.{lineEnd, Numbered};
+ghost use Rattle.script.specs.Ranges.{InRange};
 use crate::commands::Command;
 use crate::commands::named;
 use crate::numbers::Numbers;
@@ -27,7 +29,9 @@ fn word_end(line: &[u8]) -> usize
 }
 
 // The command of a line that has one; its numbers go into the list.
-fn command(line: &[u8], list: &mut Numbers) -> Command {
+fn command(line: &[u8], list: &mut Numbers) -> Command
+    ensures { λ r. ⌜ InRange r ⌝ }
+{
     let end = word_end(line);
     let found = numbers(line, end, list);
     match found {
@@ -37,7 +41,9 @@ fn command(line: &[u8], list: &mut Numbers) -> Command {
 }
 
 // What a line says: a command, nothing if it is empty or a comment, or something malformed.
-pub fn said(line: &[u8], list: &mut Numbers) -> Command {
+pub fn said(line: &[u8], list: &mut Numbers) -> Command
+    ensures { λ r. ⌜ InRange r ⌝ }
+{
     if line.len() == 0 {
         Command::Nothing
     } else if line[0] == 35 {
@@ -56,14 +62,20 @@ fn is_malformed(command: Command) -> bool {
 
 // Where the line that begins at a place ends.
 pub fn line_end(script: &[u8], at: usize) -> usize
-    requires { ⌜ at ≤ length (now script) ⌝ }
-    ensures { λ r. ⌜ (at ≤ r) × (r ≤ length (now (script .entry))) ⌝ }
+    ensures place { λ r. ⌜ r ≡ lineEnd (now (script .entry)) at ⌝ }
+    ensures bounds { λ r. ⌜ (at ≤ r) × (r ≤ max at (length (now (script .entry)))) ⌝ }
 {
-    find(script, at, script.len(), 10)
+    if at < script.len() {
+        find(script, at, script.len(), 10)
+    } else {
+        at
+    }
 }
 
 // The number of the first malformed line, counted from 1.
-pub fn first_malformed(script: &[u8], list: &mut Numbers) -> Found {
+pub fn first_malformed(script: &[u8], list: &mut Numbers) -> Found
+    ensures { λ r. ⌜ Numbered (now (script .entry)) r ⌝ }
+{
     let mut line: usize = 1;
     let mut at = 0;
     while at < script.len() {

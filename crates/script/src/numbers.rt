@@ -73,13 +73,17 @@ fn with_sign(value: u64, negative: bool) -> i64
     if negative { 0 - n } else { n }
 }
 
-// A number that is not negative; 0 for one that is.
+// A number with no sign. A negative one becomes the largest, which is out of every range.
 pub(crate) fn natural(n: i64) -> usize {
-    if n < 0 { 0 } else { n as usize }
+    if n < 0 {
+        18446744073709551615
+    } else {
+        n as usize
+    }
 }
 
 // A number of 16 bits; 0 for any other.
-pub(crate) fn small(n: i64) -> u16 {
+fn small(n: i64) -> u16 {
     let m = natural(n);
     if m <= 65535 { m as u16 } else { 0 }
 }

@@ -1,4 +1,4 @@
--- `script::first_malformed` is safe and ends.
+-- `script::first_malformed` meets its contract and ends.
 use Prim.Native.Nat.{_+_, _-_, _≤_}
 use native.Mathlib.Omega.{arith}
 use lib.ListN.{length}
@@ -6,7 +6,7 @@ use Rattle.script.proofs.first_malformed.Statement.{statement}
 use Rattle.script.proofs.first_malformed.Tie as tie
 
 abbrev Inv-loop : tie.InvT-loop
-Inv-loop script list₀ line₀ at₀ list line at = line ≤ at + 1
+Inv-loop script list₀ line₀ at₀ list line at = (1 ≤ line) × (line ≤ at + 1)
 
 abbrev μ-loop : tie.MeasureT-loop
 μ-loop script list₀ line₀ at₀ list line at = length script - at

@@ -5,10 +5,10 @@ use Rattle.script.proofs.commands.is_list.Statement.{statement}
 use Rattle.script.proofs.commands.is_list.Tie as tie
 
 abbrev Inv-loop : tie.InvT-loop
-Inv-loop list count highest items i₀ i = i ≤ count
+Inv-loop list count highest i₀ i = i ≤ count
 
 abbrev μ-loop : tie.MeasureT-loop
-μ-loop list count highest items i₀ i = count - i
+μ-loop list count highest i₀ i = count - i
 
 pub is-list-spec : {M : Type 1} → statement M
 is-list-spec =
@@ -18,7 +18,6 @@ is-list-spec =
     μ-loop
     (λ c. omega arith)
     (λ c. omega arith)
-    (λ c κs. omega arith)
     (λ c κs. omega arith)
     (λ c. omega arith)
     (λ c. omega arith)
