@@ -1,12 +1,15 @@
 // The replay: a script of calls comes in on standard input; each call's answer, the board it leaves and each frame go out as text.
 use crate::player::Player;
 use crate::player::Sums;
-use crate::print::number;
+use crate::print::newline;
+use crate::print::next;
 use crate::print::text;
 use checks::Found;
 use libc::STDIN_FILENO;
 use script::first_malformed;
 use script::line_end;
+use script::numbers::COUNT;
+use script::numbers::MOST;
 use script::numbers::Numbers;
 use script::said;
 
@@ -33,15 +36,15 @@ fn play(script: &[u8], list: &mut Numbers, sums: &mut Sums, spare: &mut Sums) {
 
 // Every line is read before the first is played.
 fn replay(script: &[u8]) {
-    let mut list = [0; 4097];
-    let mut sums = [0; 4096];
-    let mut spare = [0; 4096];
+    let mut list = [0; COUNT];
+    let mut sums = [0; MOST];
+    let mut spare = [0; MOST];
     let found = first_malformed(script, &mut list);
     match found {
         Found::At(line) => {
-            text(b"malformed line ");
-            number(line as u64);
-            text(b"\n");
+            text(b"malformed line");
+            next(line as u64);
+            newline();
         }
         Found::Nothing => play(script, &mut list, &mut sums, &mut spare),
     }
@@ -57,8 +60,10 @@ fn run(input: &mut [u8]) {
     }
 }
 
-// Lends the longest script's buffer.
-fn lend(input: &mut [u8; 262144]) {
+// Room for the longest script.
+type Input = [u8; 262144];
+
+fn lend(input: &mut Input) {
     run(input);
 }
 

@@ -8,12 +8,13 @@ use board::Outcome;
 use checks::Answer;
 use meaning::read_word;
 use script::commands::Command;
+use script::numbers::MOST;
 use script::numbers::Numbers;
 use script::numbers::bytes_of;
 use script::numbers::readings_of;
 
 // A buffer of sums: its first entries are the sums.
-pub(crate) type Sums = [i32; 4096];
+pub(crate) type Sums = [i32; MOST];
 
 fn least(a: usize, b: usize) -> usize
     ensures { λ r. ⌜ r ≤ b ⌝ }
@@ -119,7 +120,7 @@ fn call(board: Board, command: Command, list: &Numbers, sums: &mut [i32]) -> Boa
             feed_some(board, &readings, count, sums)
         }
         Command::ReadOut(count) => {
-            let mut words = [0; 4096];
+            let mut words = [0; MOST];
             frame(board, sums, &mut words, count)
         }
         Command::Drop => after(board.drop()),
@@ -172,7 +173,7 @@ impl Player {
                 length: count,
                 entry,
             } => {
-                *buffer = [entry; 4096];
+                *buffer = [entry; MOST];
                 length = count;
                 show::taken();
             }

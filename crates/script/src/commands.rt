@@ -1,5 +1,6 @@
 // The commands of a script, each with its numbers. The bytes of an update and the readings of a feed stay in the list.
 ghost use Rattle.script.specs.Ranges.{InRange};
+use crate::numbers::MOST;
 use crate::numbers::Numbers;
 use crate::numbers::entry;
 use crate::numbers::item;
@@ -41,9 +42,6 @@ pub enum Command {
     Nothing,
     Malformed,
 }
-
-// The most entries of the sums, readings of a feed, bytes of a record and words of an output.
-const MOST: usize = 4096;
 
 // A count, then that many items up to the highest.
 fn is_list(list: &Numbers, count: usize, highest: usize) -> bool {

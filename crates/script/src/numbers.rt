@@ -4,10 +4,13 @@ ghost use Prim.Native.Nat.{_≤_};
 ghost use lib.ListN.{length};
 use checks::Found;
 
-// The most numbers of a line: a count, and 4,096 items.
-const COUNT: usize = 4097;
+// The most entries of the sums, readings of a feed, bytes of a record and words of an output.
+pub const MOST: usize = 4096;
 
-pub type Numbers = [i64; 4097];
+// The most numbers of a line: a count, and the items that it counts.
+pub const COUNT: usize = MOST + 1;
+
+pub type Numbers = [i64; COUNT];
 
 // A number as far as its digits go, and the place after them.
 struct Number {
@@ -148,12 +151,12 @@ pub(crate) fn numbers(line: &[u8], from: usize, list: &mut Numbers) -> Found {
 }
 
 // The items of a list, as the bytes of a record.
-pub fn bytes_of(list: &Numbers) -> [u8; 4096]
+pub fn bytes_of(list: &Numbers) -> [u8; MOST]
     ensures { λ r. ⌜ 4096 ≡ length r ⌝ }
 {
-    let mut bytes = [0; 4096];
+    let mut bytes = [0; MOST];
     let mut i = 0;
-    while i < 4096 {
+    while i < MOST {
         bytes[i] = byte(list[i + 1]);
         i += 1;
     }
@@ -161,12 +164,12 @@ pub fn bytes_of(list: &Numbers) -> [u8; 4096]
 }
 
 // The items of a list, as readings, or its first item each time.
-pub fn readings_of(list: &Numbers, same: bool) -> [u16; 4096]
+pub fn readings_of(list: &Numbers, same: bool) -> [u16; MOST]
     ensures { λ r. ⌜ 4096 ≡ length r ⌝ }
 {
-    let mut readings = [0; 4096];
+    let mut readings = [0; MOST];
     let mut i = 0;
-    while i < 4096 {
+    while i < MOST {
         let at = if same { 1 } else { i + 1 };
         readings[i] = small(item(list, at));
         i += 1;
