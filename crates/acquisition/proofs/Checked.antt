@@ -4,7 +4,7 @@
 -- and back: feed-passes, read-out-passes.
 use Prim.Native.Nat.{ℕ, _+_, _≤_}
 use mathlib.Core.Bool.{Bool, true, not}
-use mathlib.Core.List.{List}
+use mathlib.Core.List.{List, [], _∷_, _++_}
 use mathlib.Core.Path.{_≡_, refl, sym, _∙_}
 use borrow.Author.Tests.{ltb-false, le-ltb, le-leb, eqb-true, eq-eqb, not-false}
 use native.Mathlib.Omega.{arith}
@@ -14,6 +14,7 @@ use Rattle.laws.specs.Lists.{every}
 use Rattle.laws.proofs.Every.{every-at, every-all, every-each}
 use Rattle.laws.proofs.Tests.{true-and}
 use Rattle.settings.proofs.Parts.{in-range-whole}
+use Rattle.checks.specs.declared.Answer.{Answer}
 use Rattle.checks.specs.declared.Answer.the-variants.{Taken}
 use Rattle.checks.specs.declared.Found.the-variants.{Nothing}
 use Rattle.checks.specs.Search.{firstPlace}
@@ -33,14 +34,23 @@ use Rattle.board.specs.Board.{area, wanted}
 use Rattle.board.specs.Ramp.{rampChecks}
 use Rattle.board.proofs.Soundness.{sound-parts, sides-of, wanted-nine}
 use Rattle.board.proofs.Checked.{RampTaken, ramp-taken, ramp-passes}
-use Rattle.acquisition.specs.Feed.{readingChecks, feedChecks}
-use Rattle.acquisition.specs.ReadOut.{outputChecks, readOutChecks}
+use Rattle.acquisition.specs.Feed.{feedChecks}
+use Rattle.acquisition.specs.ReadOut.{readOutChecks}
 
 -- a search over a list that finds nothing which fails a test: every element passes
 none-fails : {A : Type 0} (test : A → Bool) (l : List A) (d : A) (n : ℕ) → found (firstPlace (length l) (λ i. not (test (getD l i d)))) n ≡ Taken → every test l ≡ true
 none-fails test l d n e =
     let t : ℕ → Bool = λ i. not (test (getD l i d)) in
     every-all test l d (λ i h. not-false _ (found-none t (length l) (found-taken (firstPlace (length l) t) n e) i h))
+
+-- the checks of a ramp and three more, all taken
+all-taken : (ramp : List Answer) (x y z : Answer) → verdict (ramp ++ (x ∷ y ∷ z ∷ [])) ≡ Taken → (verdict ramp ≡ Taken) × (x ≡ Taken) × (y ≡ Taken) × (z ≡ Taken)
+unfolding verdict
+all-taken ramp x y z e =
+    let a = both-taken (verdict ramp) (verdict (x ∷ y ∷ z ∷ [])) (sym (verdict-append ramp (x ∷ y ∷ z ∷ [])) ∙ e) in
+    let p = both-taken x _ (a .1) in
+    let q = both-taken y _ (p .1) in
+    (a .0, p .0, q .0, both-taken z Taken (q .1) .0)
 
 pub record FeedTaken (b : Board) (xs : List ℕ) (sums : List ℤ) : Type 0 where
   pub ramp : RampTaken b (length sums)
@@ -49,17 +59,13 @@ pub record FeedTaken (b : Board) (xs : List ℕ) (sums : List ℤ) : Type 0 wher
   pub entries : firstPlace (length sums) (notPossibleAt (pos 0) (possible (b .«in_force»)) (length sums) (b .fed) (length xs) sums) ≡ Nothing
 
 pub feed-taken : (b : Board) (xs : List ℕ) (sums : List ℤ) → verdict (feedChecks b xs sums) ≡ Taken → FeedTaken b xs sums
-unfolding verdict
 feed-taken b xs sums e =
-    let a = both-taken (verdict (rampChecks b (length sums))) (verdict (readingChecks b xs sums)) (sym (verdict-append (rampChecks b (length sums)) (readingChecks b xs sums)) ∙ e) in
-    let p = both-taken _ _ (a .1) in
-    let q = both-taken _ _ (p .1) in
-    let r = both-taken _ Taken (q .1) in
+    let t = all-taken (rampChecks b (length sums)) _ _ _ e in
     record {
-      ramp = ramp-taken b (length sums) (a .0);
-      room = ltb-false _ _ (when-taken _ 12 (p .0));
-      readings = none-fails readingInRange xs 0 13 (q .0);
-      entries = found-taken _ 14 (r .0);
+      ramp = ramp-taken b (length sums) (t .0);
+      room = ltb-false _ _ (when-taken _ 12 (t .1));
+      readings = none-fails readingInRange xs 0 13 (t .2);
+      entries = found-taken _ 14 (t .3);
     }
 
 pub feed-passes : (b : Board) (xs : List ℕ) (sums : List ℤ) → FeedTaken b xs sums → verdict (feedChecks b xs sums) ≡ Taken
@@ -88,18 +94,13 @@ pub record ReadOutTaken (b : Board) (sums : List ℤ) (outputLength : ℕ) : Typ
   pub entries : every (possible (b .«in_force») (b .«in_force» .samples)) sums ≡ true
 
 pub read-out-taken : (b : Board) (sums : List ℤ) (output : List ℕ) → verdict (readOutChecks b sums output) ≡ Taken → ReadOutTaken b sums (length output)
-unfolding verdict
 read-out-taken b sums output e =
-    let n = length output in
-    let a = both-taken (verdict (rampChecks b (length sums))) (verdict (outputChecks b sums n)) (sym (verdict-append (rampChecks b (length sums)) (outputChecks b sums n)) ∙ e) in
-    let p = both-taken _ _ (a .1) in
-    let q = both-taken _ _ (p .1) in
-    let r = both-taken _ Taken (q .1) in
+    let t = all-taken (rampChecks b (length sums)) _ _ _ e in
     record {
-      ramp = ramp-taken b (length sums) (a .0);
-      full = ltb-false _ _ (when-taken _ 15 (p .0));
-      room = eqb-true _ _ (not-false _ (when-taken _ 16 (q .0)));
-      entries = none-fails (possible (b .«in_force») (b .«in_force» .samples)) sums (pos 0) 14 (r .0);
+      ramp = ramp-taken b (length sums) (t .0);
+      full = ltb-false _ _ (when-taken _ 15 (t .1));
+      room = eqb-true _ _ (not-false _ (when-taken _ 16 (t .2)));
+      entries = none-fails (possible (b .«in_force») (b .«in_force» .samples)) sums (pos 0) 14 (t .3);
     }
 
 pub read-out-passes : (b : Board) (sums : List ℤ) (output : List ℕ) → ReadOutTaken b sums (length output) → verdict (readOutChecks b sums output) ≡ Taken

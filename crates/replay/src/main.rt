@@ -1,22 +1,21 @@
 // The replay: a script of calls comes in on standard input; each call's answer, the board it leaves and each frame go out as text.
-ghost use mathlib.Core.Path.{_≡_};
-ghost use lib.ListN.{length};
+use crate::player::Player;
+use crate::player::Sums;
+use crate::print::newline;
+use crate::print::next;
+use crate::print::text;
+use checks::Found;
 use libc::STDIN_FILENO;
-use print::text;
+use script::first_malformed;
+use script::line_end;
+use script::numbers::COUNT;
+use script::numbers::MOST;
+use script::numbers::Numbers;
+use script::said;
 
-mod buffers;
-mod commands;
-mod numbers;
 mod player;
-mod script;
+mod print;
 mod show;
-
-// Room for the longest script.
-fn room() -> [u8; 262144]
-    ensures { λ r. ⌜ 262144 ≡ length r ⌝ }
-{
-    [0; 262144]
-}
 
 // Whether the input goes on.
 fn goes_on() -> bool {
@@ -24,12 +23,51 @@ fn goes_on() -> bool {
     io::read_full(STDIN_FILENO, &mut byte) > 0
 }
 
-fn main() {
-    let mut input = room();
-    let count = io::read_full(STDIN_FILENO, &mut input);
+// Plays the lines one after the other.
+fn play(script: &[u8], list: &mut Numbers, sums: &mut Sums, spare: &mut Sums) {
+    let mut player = Player::first();
+    let mut at = 0;
+    while at < script.len() {
+        let end = line_end(script, at);
+        player = player.play(said(&script[at..end], list), list, sums, spare);
+        at = end + 1;
+    }
+}
+
+// Every line is read before the first is played.
+fn replay(script: &[u8]) {
+    let mut list = [0; COUNT];
+    let mut sums = [0; MOST];
+    let mut spare = [0; MOST];
+    let found = first_malformed(script, &mut list);
+    match found {
+        Found::At(line) => {
+            text(b"malformed line");
+            next(line as u64);
+            newline();
+        }
+        Found::Nothing => play(script, &mut list, &mut sums, &mut spare),
+    }
+}
+
+// Reads a script into a buffer, and replays it.
+fn run(input: &mut [u8]) {
+    let count = io::read_full(STDIN_FILENO, input);
     if goes_on() {
         text(b"script too long\n");
     } else {
-        script::replay(&input[..count]);
+        replay(&input[..count]);
     }
+}
+
+// Room for the longest script.
+type Input = [u8; 262144];
+
+fn lend(input: &mut Input) {
+    run(input);
+}
+
+fn main() {
+    let mut input = [0; 262144];
+    lend(&mut input);
 }

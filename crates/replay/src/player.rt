@@ -1,14 +1,5 @@
-// The board that a script plays on, the lengths of its two buffers of sums, and which of them is lent.
+// The commands of a script, played on a board and on the sums that are lent.
 ghost use Prim.Native.Nat.{_≤_};
-use crate::buffers::fill;
-use crate::buffers::no_words;
-use crate::buffers::to_bytes;
-use crate::buffers::to_readings;
-use crate::commands::Command;
-use crate::numbers::entry;
-use crate::numbers::item;
-use crate::numbers::natural;
-use crate::numbers::small;
 use crate::show;
 use acquisition::feed::feed;
 use acquisition::read_out::read_out;
@@ -16,15 +7,14 @@ use board::Board;
 use board::Outcome;
 use checks::Answer;
 use meaning::read_word;
-use print::meaning;
-use print::text;
+use script::commands::Command;
+use script::numbers::MOST;
+use script::numbers::Numbers;
+use script::numbers::bytes_of;
+use script::numbers::readings_of;
 
-pub(crate) struct Player {
-    board: Board,
-    sums: usize,
-    spare: usize,
-    swapped: bool,
-}
+// A buffer of sums: its first entries are the sums.
+pub(crate) type Sums = [i32; MOST];
 
 fn least(a: usize, b: usize) -> usize
     ensures { λ r. ⌜ r ≤ b ⌝ }
@@ -32,9 +22,133 @@ fn least(a: usize, b: usize) -> usize
     if a <= b { a } else { b }
 }
 
-fn word(word: u16, truncation: u16) {
-    meaning(read_word(word, truncation));
-    text(b"\n");
+// What a call answers, and the board that it leaves.
+fn after(outcome: Outcome) -> Board {
+    let answer = outcome.answer;
+    let board = outcome.board;
+    show::answer(answer);
+    show::board(board);
+    board
+}
+
+// A refused Open leaves the board that was there.
+fn open(board: Board, width: usize, height: usize, binned: bool) -> Board {
+    let opened = Board::open(width, height, binned);
+    let answer = opened.answer;
+    match answer {
+        Answer::Taken => after(opened),
+        Answer::Refused(_) => after(Outcome {
+            answer: answer,
+            board: board,
+        }),
+    }
+}
+
+// Update with the first bytes.
+fn update(board: Board, bytes: &[u8], count: usize) -> Board {
+    let n = least(count, bytes.len());
+    after(board.update(&bytes[..n]))
+}
+
+// Feed with the first readings.
+fn feed_some(board: Board, readings: &[u16], count: usize, sums: &mut [i32]) -> Board {
+    let n = least(count, readings.len());
+    after(feed(board, &readings[..n], sums))
+}
+
+// Read out into the first words.
+fn frame(board: Board, sums: &[i32], words: &mut [u16], count: usize) -> Board {
+    let n = least(count, words.len());
+    let outcome = read_out(board, sums, &mut words[..n]);
+    let answer = outcome.answer;
+    let next = after(outcome);
+    match answer {
+        Answer::Taken => show::words(&words[..n]),
+        Answer::Refused(_) => {}
+    }
+    next
+}
+
+fn poke(index: usize, entry: i32, sums: &mut [i32]) {
+    if index < sums.len() {
+        sums[index] = entry;
+        show::taken();
+    } else {
+        show::outside();
+    }
+}
+
+fn print_sums(start: usize, count: usize, sums: &[i32]) {
+    let length = sums.len();
+    if start > length {
+        show::outside();
+    } else if count > length - start {
+        show::outside();
+    } else {
+        let end = start + count;
+        show::taken();
+        show::entries(&sums[start..end]);
+    }
+}
+
+// A command that leaves the board as it is.
+fn aside(board: Board, command: Command, sums: &mut [i32]) {
+    match command {
+        Command::Covered => show::coverage(board.covered()),
+        Command::Word { word, truncation } => show::meaning(read_word(word, truncation)),
+        Command::Poke { index, entry } => poke(index, entry, sums),
+        Command::PrintSums { start, count } => print_sums(start, count, sums),
+        _ => {}
+    }
+}
+
+// A command on the sums. The list has the bytes of an update and the readings of a feed.
+fn call(board: Board, command: Command, list: &Numbers, sums: &mut [i32]) -> Board {
+    match command {
+        Command::Open {
+            width,
+            height,
+            binned,
+        } => open(board, width, height, binned),
+        Command::Update(count) => {
+            let bytes = bytes_of(list);
+            update(board, &bytes, count)
+        }
+        Command::Start => after(board.start()),
+        Command::Feed { count, same } => {
+            let readings = readings_of(list, same);
+            feed_some(board, &readings, count, sums)
+        }
+        Command::ReadOut(count) => {
+            let mut words = [0; MOST];
+            frame(board, sums, &mut words, count)
+        }
+        Command::Drop => after(board.drop()),
+        _ => {
+            aside(board, command, sums);
+            board
+        }
+    }
+}
+
+// A command on the first entries of a buffer.
+fn call_on(
+    board: Board,
+    command: Command,
+    list: &Numbers,
+    length: usize,
+    buffer: &mut [i32],
+) -> Board {
+    let n = least(length, buffer.len());
+    call(board, command, list, &mut buffer[..n])
+}
+
+// The board, the lengths of the sums that are lent and of the others, and whether the spare buffer is lent.
+pub(crate) struct Player {
+    board: Board,
+    length: usize,
+    other: usize,
+    spare: bool,
 }
 
 impl Player {
@@ -44,172 +158,66 @@ impl Player {
         let board = none.board;
         Player {
             board: board,
-            sums: 0,
-            spare: 0,
-            swapped: false,
+            length: 0,
+            other: 0,
+            spare: false,
         }
     }
 
-    // What a call answers, and the board that it leaves.
-    fn after(self, outcome: Outcome) -> Player {
-        let answer = outcome.answer;
-        let board = outcome.board;
-        show::answer(answer);
-        show::board(board);
-        Player {
-            board: board,
-            sums: self.sums,
-            spare: self.spare,
-            swapped: self.swapped,
-        }
-    }
-
-    // A refused Open leaves the board that was there.
-    fn open(self, width: usize, height: usize, binned: bool) -> Player {
-        let opened = Board::open(width, height, binned);
-        let answer = opened.answer;
-        let old = self.board;
-        match answer {
-            Answer::Taken => self.after(opened),
-            Answer::Refused(_) => self.after(Outcome {
-                answer: answer,
-                board: old,
-            }),
-        }
-    }
-
-    fn update(self, list: &[i64], bytes: &mut [u8]) -> Player {
-        to_bytes(list, bytes);
-        let count = least(natural(item(list, 0)), bytes.len());
-        let board = self.board;
-        self.after(board.update(&bytes[..count]))
-    }
-
-    fn feed(self, readings: &[u16], sums: &mut [i32]) -> Player {
-        let length = least(self.sums, sums.len());
-        let board = self.board;
-        self.after(feed(board, readings, &mut sums[..length]))
-    }
-
-    fn feed_list(self, list: &[i64], same: bool, readings: &mut [u16], sums: &mut [i32]) -> Player {
-        to_readings(list, same, readings);
-        let count = least(natural(item(list, 0)), readings.len());
-        self.feed(&readings[..count], sums)
-    }
-
-    fn read_out(self, count: usize, sums: &[i32], words: &mut [u16]) -> Player {
-        let n = least(count, words.len());
-        let length = least(self.sums, sums.len());
-        let board = self.board;
-        let outcome = read_out(board, &sums[..length], &mut words[..n]);
-        let answer = outcome.answer;
-        let next = self.after(outcome);
-        match answer {
-            Answer::Taken => show::words(&words[..n]),
-            Answer::Refused(_) => {}
-        }
-        next
-    }
-
-    fn poke(self, index: usize, entry: i32, sums: &mut [i32]) -> Player {
-        if index < least(self.sums, sums.len()) {
-            sums[index] = entry;
-            show::taken();
-        } else {
-            show::outside();
-        }
-        self
-    }
-
-    fn print_sums(self, start: usize, count: usize, sums: &[i32]) -> Player {
-        let length = least(self.sums, sums.len());
-        if start > length {
-            show::outside();
-        } else if count > length - start {
-            show::outside();
-        } else {
-            let end = start + count;
-            show::taken();
-            show::entries(&sums[start..end]);
-        }
-        self
-    }
-
-    // The sums have another length and one entry everywhere.
-    fn with_sums(self, count: usize, entry: i32, sums: &mut [i32]) -> Player {
-        fill(sums, entry);
-        show::taken();
-        let board = self.board;
-        Player {
-            board: board,
-            sums: count,
-            spare: self.spare,
-            swapped: self.swapped,
-        }
-    }
-
-    fn swap(self) -> Player {
-        show::taken();
-        let board = self.board;
-        Player {
-            board: board,
-            sums: self.spare,
-            spare: self.sums,
-            swapped: !self.swapped,
-        }
-    }
-
-    // A command with its numbers, on the sums that are lent.
-    fn call(self, command: Command, list: &[i64], sums: &mut [i32]) -> Player {
-        let board = self.board;
-        let first = natural(item(list, 0));
+    // A command on the buffer that is lent. `sums` gives it one entry everywhere, and the sums another length.
+    fn play_on(self, command: Command, list: &Numbers, buffer: &mut Sums) -> Player {
+        let mut board = self.board;
+        let mut length = self.length;
         match command {
-            Command::Open => self.open(first, natural(item(list, 1)), item(list, 2) == 1),
-            Command::Update => {
-                let mut bytes = io::buffer();
-                self.update(list, &mut bytes)
+            Command::Sums {
+                length: count,
+                entry,
+            } => {
+                *buffer = [entry; MOST];
+                length = count;
+                show::taken();
             }
-            Command::Start => self.after(board.start()),
-            Command::Feed => {
-                let mut readings = no_words();
-                self.feed_list(list, false, &mut readings, sums)
+            _ => {
+                board = call_on(board, command, list, length, buffer);
             }
-            Command::Fill => {
-                let mut readings = no_words();
-                self.feed_list(list, true, &mut readings, sums)
-            }
-            Command::ReadOut => {
-                let mut words = no_words();
-                self.read_out(first, sums, &mut words)
-            }
-            Command::Drop => self.after(board.drop()),
-            Command::Covered => {
-                show::coverage(board.covered());
-                self
-            }
-            Command::Word => {
-                word(small(item(list, 0)), small(item(list, 1)));
-                self
-            }
-            Command::Sums => self.with_sums(first, entry(item(list, 1)), sums),
-            Command::Poke => self.poke(first, entry(item(list, 1)), sums),
-            Command::Swap => self.swap(),
-            Command::PrintSums => self.print_sums(first, natural(item(list, 1)), sums),
-            Command::Nothing | Command::Malformed => self,
+        }
+        Player {
+            board: board,
+            length: length,
+            other: self.other,
+            spare: self.spare,
         }
     }
-    // Plays a command with its numbers.
+
+    // The other buffer is lent.
+    fn swapped(self) -> Player {
+        let board = self.board;
+        show::taken();
+        Player {
+            board: board,
+            length: self.other,
+            other: self.length,
+            spare: !self.spare,
+        }
+    }
+
+    // Plays a command.
     pub(crate) fn play(
         self,
         command: Command,
-        list: &[i64],
-        sums: &mut [i32],
-        spare: &mut [i32],
+        list: &Numbers,
+        sums: &mut Sums,
+        spare: &mut Sums,
     ) -> Player {
-        if self.swapped {
-            self.call(command, list, spare)
-        } else {
-            self.call(command, list, sums)
+        match command {
+            Command::Swap => self.swapped(),
+            _ => {
+                if self.spare {
+                    self.play_on(command, list, spare)
+                } else {
+                    self.play_on(command, list, sums)
+                }
+            }
         }
     }
 }

@@ -1,11 +1,16 @@
 // What a replay prints.
+use crate::print::byte;
+use crate::print::newline;
+use crate::print::next;
+use crate::print::number;
+use crate::print::signed;
+use crate::print::text;
+use crate::print::whole;
 use board::Board;
 use board::Coverage;
 use checks::Answer;
-use print::number;
-use print::refusal;
-use print::signed;
-use print::text;
+use checks::Refusal;
+use meaning::WordRead;
 use settings::Settings;
 
 pub(crate) fn taken() {
@@ -16,13 +21,18 @@ pub(crate) fn outside() {
     text(b"outside\n");
 }
 
+// A refusal with its number and place.
+fn refusal(r: Refusal) {
+    text(b"refused");
+    next(r.number as u64);
+    next(r.place as u64);
+    newline();
+}
+
 pub(crate) fn answer(answer: Answer) {
     match answer {
         Answer::Taken => taken(),
-        Answer::Refused(r) => {
-            refusal(r);
-            text(b"\n");
-        }
+        Answer::Refused(r) => refusal(r),
     }
 }
 
@@ -30,22 +40,38 @@ pub(crate) fn coverage(coverage: Coverage) {
     match coverage {
         Coverage::Covered => text(b"covered\n"),
         Coverage::Uncovered => text(b"uncovered\n"),
-        Coverage::Refused(r) => {
-            refusal(r);
-            text(b"\n");
-        }
+        Coverage::Refused(r) => refusal(r),
     }
 }
 
-fn next(n: u64) {
-    text(b" ");
-    number(n);
+fn limits(low: f64, high: f64) {
+    whole(low);
+    text(b"..");
+    whole(high);
+    newline();
+}
+
+fn saturated(sample: u64) {
+    text(b"sat");
+    next(sample);
+    newline();
+}
+
+// What a word means: its limits or its flag.
+pub(crate) fn meaning(read: WordRead) {
+    match read {
+        WordRead::Ordinary { low, high } => limits(low, high),
+        WordRead::Saturated(sample) => saturated(sample as u64),
+        WordRead::Negative => text(b"neg\n"),
+        WordRead::Unassigned => text(b"none\n"),
+        WordRead::Refused(r) => refusal(r),
+    }
 }
 
 fn weights(weights: [i32; 9]) {
     let mut i = 0;
     while i < 9 {
-        text(b" ");
+        byte(32);
         signed(weights[i]);
         i += 1;
     }
@@ -70,16 +96,12 @@ pub(crate) fn board(board: Board) {
     settings(waiting);
     let in_force = board.in_force;
     settings(in_force);
-    text(b"\n");
+    newline();
 }
 
 // What follows the number at place i of a list: ten stand on a line.
 fn separator(i: usize, last: bool) {
-    if (i % 10 == 9) | last {
-        text(b"\n");
-    } else {
-        text(b" ");
-    }
+    byte(if (i % 10 == 9) | last { 10 } else { 32 });
 }
 
 fn word(word: u16) {
