@@ -8,13 +8,13 @@ use lib.ListN.{getD}
 use Rattle.laws.specs.Lists.{each}
 
 -- a number with no sign; a negative one becomes the largest of 64 bits
-abbrev pub unsigned : ℤ → ℕ
-unsigned (pos n) = n
-unsigned (negsuc n) = 18446744073709551615
+abbrev pub naturalOf : ℤ → ℕ
+naturalOf (pos n) = n
+naturalOf (negsuc n) = 18446744073709551615
 
 -- a number up to the highest; 0 for any other
 abbrev pub upTo : ℕ → ℤ → ℕ
-upTo highest z = cond (leb (unsigned z) highest) (unsigned z) 0
+upTo highest z = cond (leb (naturalOf z) highest) (naturalOf z) 0
 
 -- an item as a byte, and as a number of 16 bits: the one after i others, or the first each time
 abbrev pub byteItem : List ℤ → ℕ → ℕ

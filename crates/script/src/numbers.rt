@@ -3,7 +3,7 @@ ghost use mathlib.Core.Path.{_≡_};
 ghost use mathlib.Core.Bool.{cond};
 ghost use Prim.Native.Nat.{_+_, _≤_, _<_};
 ghost use lib.ListN.{length};
-ghost use Rattle.script.specs.Items.{unsigned, upTo, byteItems, readingItems};
+ghost use Rattle.script.specs.Items.{naturalOf, upTo, byteItems, readingItems};
 use checks::Found;
 
 // The most entries of the sums, readings of a feed, bytes of a record and words of an output.
@@ -80,7 +80,7 @@ fn with_sign(value: u64, negative: bool) -> i64
 
 // A number with no sign. A negative one becomes the largest, which is out of every range.
 pub(crate) fn natural(n: i64) -> usize
-    ensures { λ r. ⌜ r ≡ unsigned n ⌝ }
+    ensures { λ r. ⌜ r ≡ naturalOf n ⌝ }
 {
     if n < 0 {
         18446744073709551615

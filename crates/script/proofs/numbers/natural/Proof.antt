@@ -8,15 +8,15 @@ use lib.Signed.{ltZ}
 use mir.Facts.{toZ-ofZ}
 use mir.Syntax.{w64}
 use Rattle.laws.proofs.Ints.{signed, fitted, whole}
-use Rattle.script.specs.Items.{unsigned}
+use Rattle.script.specs.Items.{naturalOf}
 use Rattle.script.proofs.numbers.natural.Statement.{statement}
 use Rattle.script.proofs.numbers.natural.Tie as tie
 
-negative : (z : ℤ) → ltZ z (pos 0) ≡ true → 18446744073709551615 ≡ unsigned z
+negative : (z : ℤ) → ltZ z (pos 0) ≡ true → 18446744073709551615 ≡ naturalOf z
 negative (pos n) e = absurd (omega (arith, ltb-true))
 negative (negsuc n) e = refl
 
-not-negative : (z : ℤ) → ltZ z (pos 0) ≡ false → natAbs z ≡ unsigned z
+not-negative : (z : ℤ) → ltZ z (pos 0) ≡ false → natAbs z ≡ naturalOf z
 not-negative (pos n) e = refl
 not-negative (negsuc n) e = cc
 

@@ -6,11 +6,11 @@ use borrow.Author.Needs.{needs}
 use borrow.Author.Tests.{le-leb, lt-leb}
 use lib.IntN.{ℤ}
 use mir.Facts.{toZ-ofZ}
-use Rattle.script.specs.Items.{unsigned, upTo}
+use Rattle.script.specs.Items.{naturalOf, upTo}
 use Rattle.script.proofs.numbers.up_to.Statement.{statement}
 use Rattle.script.proofs.numbers.up_to.Tie as tie
 
-module _ (highest m : ℕ) (z : ℤ) (e : m ≡ unsigned z) where
+module _ (highest m : ℕ) (z : ℤ) (e : m ≡ naturalOf z) where
   within : m ≤ highest → m ≡ upTo highest z
   within h = rw (← e, le-leb m highest h)
 
