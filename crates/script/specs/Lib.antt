@@ -1,3 +1,4 @@
--- The lines of a script, and the ranges of its numbers.
+-- The lines of a script, the ranges of its numbers, and the items of its lists.
+pub mod Items
 pub mod Lines
 pub mod Ranges

@@ -1,7 +1,9 @@
 // The numbers of a line.
 ghost use mathlib.Core.Path.{_≡_};
-ghost use Prim.Native.Nat.{_≤_};
+ghost use mathlib.Core.Bool.{cond};
+ghost use Prim.Native.Nat.{_+_, _≤_, _<_};
 ghost use lib.ListN.{length};
+ghost use Rattle.script.specs.Items.{naturalOf, upTo, byteItems, readingItems};
 use checks::Found;
 
 // The most entries of the sums, readings of a feed, bytes of a record and words of an output.
@@ -77,7 +79,9 @@ fn with_sign(value: u64, negative: bool) -> i64
 }
 
 // A number with no sign. A negative one becomes the largest, which is out of every range.
-pub(crate) fn natural(n: i64) -> usize {
+pub(crate) fn natural(n: i64) -> usize
+    ensures { λ r. ⌜ r ≡ naturalOf n ⌝ }
+{
     if n < 0 {
         18446744073709551615
     } else {
@@ -85,16 +89,12 @@ pub(crate) fn natural(n: i64) -> usize {
     }
 }
 
-// A number of 16 bits; 0 for any other.
-fn small(n: i64) -> u16 {
+// A number up to the highest; 0 for any other.
+fn up_to(n: i64, highest: usize) -> usize
+    ensures { λ r. ⌜ (r ≡ upTo highest n) × (r ≤ highest) ⌝ }
+{
     let m = natural(n);
-    if m <= 65535 { m as u16 } else { 0 }
-}
-
-// A byte; 0 for any other number.
-fn byte(n: i64) -> u8 {
-    let m = natural(n);
-    if m <= 255 { m as u8 } else { 0 }
+    if m <= highest { m } else { 0 }
 }
 
 // A number of 32 bits with a sign; 0 for any other.
@@ -152,26 +152,36 @@ pub(crate) fn numbers(line: &[u8], from: usize, list: &mut Numbers) -> Found {
 
 // The items of a list, as the bytes of a record.
 pub fn bytes_of(list: &Numbers) -> [u8; MOST]
-    ensures { λ r. ⌜ 4096 ≡ length r ⌝ }
+    ensures count { λ r. ⌜ 4096 ≡ length r ⌝ }
+    ensures items { λ r. ⌜ r ≡ byteItems (now (list .entry)) ⌝ }
 {
     let mut bytes = [0; MOST];
     let mut i = 0;
     while i < MOST {
-        bytes[i] = byte(list[i + 1]);
+        bytes[i] = up_to(list[i + 1], 255) as u8;
         i += 1;
     }
     bytes
 }
 
+// The place in a list of a reading: the first item's each time, or one after the other.
+fn place(i: usize, same: bool) -> usize
+    requires { ⌜ i < 4096 ⌝ }
+    ensures { λ r. ⌜ (r ≡ cond same 1 (i + 1)) × (r ≤ 4096) ⌝ }
+{
+    if same { 1 } else { i + 1 }
+}
+
 // The items of a list, as readings, or its first item each time.
 pub fn readings_of(list: &Numbers, same: bool) -> [u16; MOST]
-    ensures { λ r. ⌜ 4096 ≡ length r ⌝ }
+    ensures count { λ r. ⌜ 4096 ≡ length r ⌝ }
+    ensures items { λ r. ⌜ r ≡ readingItems same (now (list .entry)) ⌝ }
 {
     let mut readings = [0; MOST];
     let mut i = 0;
     while i < MOST {
-        let at = if same { 1 } else { i + 1 };
-        readings[i] = small(item(list, at));
+        let at = place(i, same);
+        readings[i] = up_to(list[at], 65535) as u16;
         i += 1;
     }
     readings
