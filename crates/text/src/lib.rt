@@ -9,6 +9,7 @@ ghost use Rattle.text.specs.Text.{wholeOf, dots, refused, decimal, meani
 ghost use Rattle.text.specs.Requires.{WholeLimits};
 use meaning::WordRead;
 
+// Bytes as they are.
 pub fn put(out: &mut [u8], at: usize, bytes: &[u8]) -> usize
     requires { ⌜ at + length (now bytes) ≤ length (now out) ⌝ }
     ensures end { λ r. ⌜ r ≡ at + length (now (bytes .entry)) ⌝ }
