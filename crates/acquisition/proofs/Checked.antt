@@ -27,8 +27,8 @@ use Rattle.entries.specs.Range.{entryInRange}
 use Rattle.entries.proofs.Range.{possible-in-range}
 use Rattle.written.specs.Written.{notPossibleAt}
 use Rattle.ramp.specs.Requires.{Feedable}
-use Rattle.words.specs.Frame.{wordCount}
-use Rattle.words.specs.Requires.{Readable}
+use Rattle.layout.specs.Frame.{wordCount}
+use Rattle.layout.specs.Requires.{Readable}
 use Rattle.board.specs.declared.Board.{Board}
 use Rattle.board.specs.Board.{area, wanted}
 use Rattle.board.specs.Ramp.{rampChecks}

@@ -3,14 +3,14 @@ ghost use mathlib.Core.Path.{_≡_};
 ghost use mathlib.Core.Bool.{true};
 ghost use lib.ListN.{length};
 ghost use Rattle.checks.specs.Checks.{verdict};
-ghost use Rattle.words.specs.Frame.{wordCount};
+ghost use Rattle.layout.specs.Frame.{wordCount};
 ghost use Rattle.board.specs.Board.{area, ofTakenSides, sound};
 ghost use Rattle.acquisition.specs.ReadOut.{outputChecks, readOutChecks, readOutOf, readOutWords};
 use board::Board;
 use board::Outcome;
 use checks::Answer;
-use entries::first_impossible;
-use words::frame::write_frame;
+use impossible::first_impossible;
+use layout::write_frame;
 
 // How many words a frame has: one for each pixel, or each square; 0 for sides that Open doesn't take.
 pub fn word_count(board: Board) -> usize

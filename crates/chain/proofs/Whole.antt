@@ -24,8 +24,8 @@ use Rattle.ramp.specs.Requires.{Feedable}
 use Rattle.ramp.proofs.Feeding.{feed-length}
 use Rattle.ramp.proofs.Agrees.{agrees-none, agrees-all}
 use Rattle.ramp.proofs.Honest.{all-possible}
-use Rattle.words.specs.Frame.{wordCount, frameOf}
-use Rattle.words.specs.Requires.{Readable}
+use Rattle.layout.specs.Frame.{wordCount, frameOf}
+use Rattle.layout.specs.Requires.{Readable}
 use Rattle.board.specs.declared.Board.{Board}
 use Rattle.board.specs.Board.{area, wanted, extended}
 use Rattle.board.specs.Ramp.{rampChecks}

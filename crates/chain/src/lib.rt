@@ -7,8 +7,8 @@ use acquisition::read_out::word_count;
 use begin::begin;
 use board::Board;
 use checks::Answer;
+use layout::write_frame;
 use ramp::feed;
-use words::frame::write_frame;
 
 // The checks of Feed and of a Read out after it, on a ramp with nothing fed. Read out's 14 would find nothing: what Feed leaves is possible.
 fn check(b: Board, readings: &[u16], sums: &[i32], words: &[u16]) -> Answer

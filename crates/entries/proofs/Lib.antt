@@ -3,5 +3,4 @@ pub mod Marks
 pub mod Wrapped
 pub mod Possible
 pub mod Range
-pub mod Near
 pub mod Laws

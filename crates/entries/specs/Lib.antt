@@ -2,5 +2,4 @@
 pub mod Mark
 pub mod Possible
 pub mod Range
-pub mod Near
 pub mod Laws

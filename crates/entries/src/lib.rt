@@ -1,17 +1,11 @@
 // An entry of the sums: a sum, or a mark in its place.
 ghost use mathlib.Core.Path.{_≡_};
-ghost use mathlib.Core.Bool.{true, not, cond, _&&_};
-ghost use Prim.Native.Nat.{_+_, _≤_};
+ghost use mathlib.Core.Bool.{cond};
+ghost use Prim.Native.Nat.{_≤_};
 ghost use lib.IntN.{pos, _-ℤ_};
-ghost use lib.ListN.{length, getD};
 ghost use lib.Signed.{_≤ℤ_};
-ghost use Rattle.laws.specs.Lists.{every};
-ghost use Rattle.checks.specs.Search.{firstPlace};
-ghost use Rattle.entries.specs.Mark.{mark, marked};
+ghost use Rattle.entries.specs.Mark.{marked};
 ghost use Rattle.entries.specs.Possible.{possibleAfter};
-ghost use Rattle.entries.specs.Near as Def;
-ghost use Rattle.entries.specs.Near.{isNear};
-use checks::Found;
 use numbers::wrapping_add;
 
 // The mark of sample n is this and n more.
@@ -21,7 +15,7 @@ pub const MARK: i32 = 1073741824;
 const MAX_PRODUCT: i32 = 245745;
 
 // A mark moved down by a gap; a sum stays.
-fn lowered(entry: i32, gap: i32) -> i32
+pub fn lowered(entry: i32, gap: i32) -> i32
     requires { ⌜ (pos 0 ≤ℤ gap) × (gap ≤ℤ pos 1073741825) ⌝ }
     ensures { λ r. ⌜ r ≡ cond (marked entry) (entry -ℤ gap) entry ⌝ }
 {
@@ -30,7 +24,7 @@ fn lowered(entry: i32, gap: i32) -> i32
 
 // Whether an entry is possible after k samples. With the mark of sample k moved down to the highest sum, one range holds sums and marks; with the
 // lowest sum moved to the lowest number, one test tells the range.
-fn is_possible(entry: i32, k: usize) -> bool
+pub fn is_possible(entry: i32, k: usize) -> bool
     requires { ⌜ k ≤ 9 ⌝ }
     ensures { λ r. ⌜ r ≡ possibleAfter k entry ⌝ }
 {
@@ -39,102 +33,4 @@ fn is_possible(entry: i32, k: usize) -> bool
     let moved = lowered(entry, MARK + samples - (128 + span));
     let lowest = wrapping_add(i32::MIN, span - 128);
     wrapping_add(moved, lowest) <= i32::MIN + 2 * span
-}
-
-// Whether each entry is, with no early exit.
-fn each_possible(sums: &[i32], k: usize) -> bool
-    requires { ⌜ k ≤ 9 ⌝ }
-    ensures { λ r. ⌜ r ≡ every (possibleAfter k) (now (sums .entry)) ⌝ }
-{
-    let mut bad = false;
-    let mut i = 0;
-    while i < sums.len() {
-        bad = bad | !is_possible(sums[i], k);
-        i += 1;
-    }
-    !bad
-}
-
-// An entry counted from `near` below 0, with marks moved down by a gap.
-fn moved(entry: i32, gap: i32, near: i32) -> i32
-    requires { ⌜ (pos 0 ≤ℤ near) × (near ≤ℤ pos 1048576) × (near ≤ℤ gap) × (gap ≤ℤ pos 1073741825) ⌝ }
-    ensures { λ r. ⌜ r ≡ Def.moved gap near entry ⌝ }
-{
-    lowered(entry, gap) + near
-}
-
-// Whether all four parts, of one length, are near: all their bits together are. Four at once take less time than one place after the other.
-fn four_near(a: &[i32], b: &[i32], c: &[i32], d: &[i32], gap: i32, near: i32) -> bool
-    requires { ⌜ (pos 0 ≤ℤ near) × (near ≤ℤ pos 1048576) × (near ≤ℤ gap) × (gap ≤ℤ pos 1073741825) ⌝ }
-    requires { ⌜ (length (now b) ≡ length (now a)) × (length (now c) ≡ length (now a)) × (length (now d) ≡ length (now a)) ⌝ }
-    ensures { λ r. ⌜ (r ≡ true → every (isNear gap near) (now (a .entry)) && every (isNear gap near) (now (b .entry)) && (every (isNear gap near) (now (c .entry)) && every (isNear gap near) (now (d .entry))) ≡ true) ⌝ }
-{
-    let mut bits = 0;
-    let mut i = 0;
-    while i < a.len() {
-        let upper = moved(a[i], gap, near) | moved(b[i], gap, near);
-        let lower = moved(c[i], gap, near) | moved(d[i], gap, near);
-        bits = bits | (upper | lower);
-        i += 1;
-    }
-    (bits >= 0) & (bits < near + near)
-}
-
-// How far from 0 a sum is near after k samples. It is a power of two: then the bits of near entries together are near.
-fn nearness(k: usize) -> i32
-    ensures { λ r. ⌜ r ≡ pos (Def.nearness k) ⌝ }
-{
-    if k < 5 { 131072 } else { 1048576 }
-}
-
-// How far the mark of sample k lies above the highest near sum.
-fn gap_above(k: usize, near: i32) -> i32
-    requires { ⌜ (k ≤ 9) × (pos 0 ≤ℤ near) × (near ≤ℤ pos 1048576) ⌝ }
-    ensures { λ r. ⌜ r ≡ mark (k + 1) -ℤ near ⌝ }
-{
-    MARK + (k as i32 + 1) - near
-}
-
-// Whether all entries are surely possible, by quarters and what is left over.
-fn all_near(sums: &[i32], k: usize) -> bool
-    requires { ⌜ (1 ≤ k) × (k ≤ 9) ⌝ }
-    ensures { λ r. ⌜ (r ≡ true → every (possibleAfter k) (now (sums .entry)) ≡ true) ⌝ }
-{
-    let near = nearness(k);
-    let gap = gap_above(k, near);
-    let one = sums.len() / 4;
-    let two = one + one;
-    let three = two + one;
-    let four = three + one;
-    let most = four_near(
-        &sums[0..one],
-        &sums[one..two],
-        &sums[two..three],
-        &sums[three..four],
-        gap,
-        near,
-    );
-    most & each_possible(&sums[four..], k)
-}
-
-// The place of the first entry that isn't possible after k samples.
-pub fn first_impossible(sums: &[i32], k: usize) -> Found
-    requires { ⌜ (1 ≤ k) × (k ≤ 9) ⌝ }
-    ensures { λ r. ⌜ r ≡ firstPlace (length (now (sums .entry))) (λ p. not (possibleAfter k (getD (now (sums .entry)) p (pos 0)))) ⌝ }
-{
-    if all_near(sums, k) {
-        return Found::Nothing;
-    }
-    if each_possible(sums, k) {
-        return Found::Nothing;
-    }
-    let mut i = 0;
-    while i < sums.len() {
-        if is_possible(sums[i], k) {
-            i += 1;
-        } else {
-            return Found::At(i);
-        }
-    }
-    Found::Nothing
 }

@@ -13,8 +13,8 @@ use Rattle.checks.specs.declared.Answer.the-variants.{Taken}
 use Rattle.ramp.specs.Exact.{entryAfter}
 use Rattle.ramp.proofs.Agrees.{agrees-full}
 use Rattle.words.specs.Word.{wordOf}
-use Rattle.words.specs.Frame.{wordAt, frameOf}
-use Rattle.words.proofs.Grid.{pixels-on, pixels-some}
+use Rattle.layout.specs.Frame.{wordAt, frameOf}
+use Rattle.layout.proofs.Grid.{pixels-on, pixels-some}
 use Rattle.board.specs.declared.Coverage.the-variants.{Covered}
 use Rattle.acquisition.specs.ReadOut.{readOutOf, readOutWords}
 use Rattle.board.specs.Covered.{coverageOf}

@@ -22,7 +22,7 @@ use Rattle.entries.specs.Possible.{possible}
 use Rattle.written.specs.Written.{notPossibleAt}
 use Rattle.ramp.proofs.Agrees.{Agrees}
 use Rattle.ramp.proofs.Honest.{never-damaged, all-possible}
-use Rattle.words.specs.Frame.{wordCount}
+use Rattle.layout.specs.Frame.{wordCount}
 use Rattle.board.specs.declared.Board.{Board}
 use Rattle.board.specs.Board as Board
 use Rattle.board.specs.Board.{wanted, sound}

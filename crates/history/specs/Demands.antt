@@ -21,7 +21,7 @@ use Rattle.ramp.specs.Exact.{exactSum}
 use Rattle.meaning.specs.declared.WordRead.{WordRead}
 use Rattle.meaning.specs.declared.WordRead.the-variants.{Saturated, Negative}
 use Rattle.words.specs.Word.{isNegative}
-use Rattle.words.specs.Frame.{frameOf}
+use Rattle.layout.specs.Frame.{frameOf}
 use Rattle.meaning.specs.Meaning.{readWord}
 use Rattle.words.specs.Laws.{Between}
 use Rattle.board.specs.declared.Board.{Board}

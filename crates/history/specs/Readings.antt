@@ -8,7 +8,7 @@ use Rattle.laws.specs.Numbers.{First, firstOf}
 use Rattle.step.specs.Step.{overIt}
 use Rattle.ramp.specs.Exact.{readingOf, exactSum}
 use Rattle.words.specs.Word.{wordBy}
-use Rattle.words.specs.Frame.{pixelsOf, wordCount}
+use Rattle.layout.specs.Frame.{pixelsOf, wordCount}
 use Rattle.history.specs.Calls.{Ledger}
 
 -- M

@@ -7,7 +7,7 @@ use lib.IntN.{ℤ, pos}
 use lib.ListN.{length, take, replicate}
 use Rattle.checks.specs.declared.Answer.{Answer}
 use Rattle.checks.specs.Checks.{verdict, byAnswer}
-use Rattle.words.specs.Frame.{wordCount}
+use Rattle.layout.specs.Frame.{wordCount}
 use Rattle.begin.specs.Begun.{started}
 use Rattle.chain.specs.Chain.{frameAnswer, frameWords}
 use Rattle.input.specs.Input.{widthOf, heightOf, isBinned, recordOf, readingsOf, maxPixels}

@@ -18,7 +18,7 @@ use Rattle.entries.specs.Possible.{possibleAfter}
 use Rattle.step.specs.Step.{step}
 use Rattle.ramp.specs.Feed.{feedOne, feedAll}
 use Rattle.words.specs.Word.{smallestMark, isNegative}
-use Rattle.words.specs.Frame.{pixelsOf, wordAt, frameOf}
+use Rattle.layout.specs.Frame.{pixelsOf, wordAt, frameOf}
 use Rattle.board.specs.Board.{sidesTaken, sound}
 use Rattle.board.specs.Open.{openOf}
 use Rattle.board.specs.Update.{updateOf}

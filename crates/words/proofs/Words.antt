@@ -24,7 +24,7 @@ use Rattle.laws.proofs.Numbers.{less}
 use Rattle.entries.specs.Mark.{marked, sampleOf}
 use Rattle.entries.proofs.Marks.{is-marked, sample-is, sample-none, by-mark}
 use Rattle.words.specs.Word.{smaller, smallestMark, isNegative, cutBy, wordBy, wordOf}
-use Rattle.words.proofs.Raised.{Raised}
+use Rattle.words.proofs.Raising.{Raised}
 
 -- a sample
 pub kept : (z : ℤ) → (pos 0 ≤ℤ z) × (z ≤ℤ pos 15) → (bitAnd (natAbs z) 15 ≡ natAbs z) × (natAbs z ≤ 15)

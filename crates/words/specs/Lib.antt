@@ -1,5 +1,3 @@
--- The words of a frame.
+-- From entries to a word.
 pub mod Word
-pub mod Frame
-pub mod Requires
 pub mod Laws

@@ -9,7 +9,7 @@ ghost use Rattle.checks.specs.Search.{firstPlace};
 ghost use Rattle.entries.specs.Possible.{possibleAfter};
 ghost use Rattle.written.specs.Written.{notPossibleAt};
 use checks::Found;
-use entries::first_impossible;
+use impossible::first_impossible;
 use numbers::beyond;
 use numbers::least;
 

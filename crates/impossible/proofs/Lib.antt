@@ -1,0 +1,2 @@
+-- The laws of the quicker test.
+pub mod Near

@@ -1,0 +1,2 @@
+-- A quicker test of entries.
+pub mod Near
