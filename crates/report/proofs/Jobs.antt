@@ -40,6 +40,7 @@ module _ (bytes : List ℕ) (total : ℕ) where
   -- the text of a result is that of the input
   pub text-is : (job : Job) → Result bytes total job
       → answerText (job .answer) (job .columns) (job .truncation) (take (job .count) (job .words)) ≡ textOf bytes total
+  unfolding textOf
   text-is job r = rw (r .answer, r .words, r .columns, r .truncation) (by (jobAnswer bytes total))
     where
       by : (a : Answer)

@@ -78,7 +78,7 @@ unfolding example verdict sidesTaken openOf updateOf startOf sound inRange every
 truncation = refl
 
 known-text : textOf example 14 ≡ header ++ (lineText 0 0 2 32 ++ lineText 0 1 2 4127)
-unfolding example linesText
+unfolding example linesText textOf
 known-text = rw (taken, words, truncation)
 
 pub laws : ReportLaws

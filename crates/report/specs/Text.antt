@@ -18,5 +18,5 @@ answerText Taken columns r words = header ++ linesText columns r words (length w
 answerText (Refused f) columns r words = refusalText f ++ newline
 
 -- the whole output for an input, of which `total` is the whole length
-abbrev pub textOf : List ℕ → ℕ → List ℕ
+unfoldable pub textOf : List ℕ → ℕ → List ℕ
 textOf bytes total = answerText (jobAnswer bytes total) (columnsOf bytes) (truncationOf bytes) (jobWords bytes total)
