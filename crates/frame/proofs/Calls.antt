@@ -19,9 +19,9 @@ use Rattle.history.specs.Readings.{frameFrom}
 use Rattle.history.specs.Demands.{Every, played, Demand1, FrameClaim}
 use Rattle.history.proofs.Demands.{demands}
 use Rattle.begin.specs.Begun.{updated, started, begun}
-use Rattle.chain.specs.Chain as Chain
-use Rattle.chain.specs.Chain.{fed, frameAnswer, frameWords}
-use Rattle.chain.proofs.Whole.{frame-is}
+use Rattle.whole_frame.specs.Chain as Chain
+use Rattle.whole_frame.specs.Chain.{fed, frameAnswer, frameWords}
+use Rattle.whole_frame.proofs.Whole.{frame-is}
 use Rattle.frame.specs.Laws.{ledgerOf}
 
 module _ (w h : ℕ) (binned : Bool) (bytes xs : List ℕ) (sums : List ℤ) (output : List ℕ) (taken : frameAnswer w h binned bytes xs sums output ≡ Taken) where

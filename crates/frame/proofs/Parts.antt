@@ -30,8 +30,8 @@ use Rattle.acquisition.proofs.Checked.{feed-taken, feed-passes, read-out-taken}
 use Rattle.history.specs.Demands.{joined}
 use Rattle.begin.specs.Begun.{started, begun}
 use Rattle.begin.proofs.Beginning.{begun-sound, started-unfed}
-use Rattle.chain.specs.Chain.{fed, readOut, frameAnswer, frameSums, frameWords}
-use Rattle.chain.proofs.Whole.{frame-is, then-read-out, words-are}
+use Rattle.whole_frame.specs.Chain.{fed, readOut, frameAnswer, frameSums, frameWords}
+use Rattle.whole_frame.proofs.Whole.{frame-is, then-read-out, words-are}
 use Rattle.steps.proofs.Stepping.{feed-is, feed-left, read-out-is, read-out-left}
 use Rattle.steps.specs.Steps.{partFed, allFed, feedAnswer, feedLeaves, readOutAnswer, readOutLeaves}
 use Rattle.frame.specs.Laws.{fedInParts, PartsTaken}

@@ -13,7 +13,7 @@ use Rattle.history.specs.Calls.{update, start, feed, Ledger, fresh, viewOf, nex
 use Rattle.history.specs.Readings.{frameFrom}
 use Rattle.history.specs.Demands.{FrameClaim, joined}
 use Rattle.begin.specs.Begun.{started}
-use Rattle.chain.specs.Chain.{frameAnswer, frameSums, frameWords}
+use Rattle.whole_frame.specs.Chain.{frameAnswer, frameSums, frameWords}
 use Rattle.steps.specs.Steps.{feedAnswer, feedLeaves, readOutAnswer, readOutLeaves}
 
 -- the parts of a ramp, each fed with those before it counted: the sums that the last one leaves

@@ -1,12 +1,12 @@
 // A whole frame in one call, and Feed and Read out alone, for C and Rust: a refusal's number, 0 if there is none, and its place.
 ghost use mathlib.Core.Path.{_≡_};
 ghost use Rattle.checks.specs.Told.{numberOf, placeOf};
-ghost use Rattle.chain.specs.Chain.{frameAnswer, frameSums, frameWords};
+ghost use Rattle.whole_frame.specs.Chain.{frameAnswer, frameSums, frameWords};
 ghost use Rattle.steps.specs.Steps.{feedAnswer, feedLeaves, readOutAnswer, readOutLeaves};
-use chain::frame_of;
 use checks::told::told;
 use steps::feed_of;
 use steps::read_out_of;
+use whole_frame::frame_of;
 
 // A frame: the number of the first refusal of Open, Update, Start, Feed and Read out, 0 if it was taken, and its place.
 #[no_mangle]

@@ -20,8 +20,8 @@ use Rattle.checks.proofs.Laws.{first-taken, verdict-append}
 use Rattle.record.specs.Record.{mapOf}
 use Rattle.update.proofs.Overlong.{longest}
 use Rattle.layout.specs.Frame.{wordCount}
-use Rattle.chain.specs.Chain.{frameAnswer, frameWords}
-use Rattle.chain.proofs.Enough.{refused-last, overlongChecks, overlong-answer, enough-answer, enough-words}
+use Rattle.whole_frame.specs.Chain.{frameAnswer, frameWords}
+use Rattle.whole_frame.proofs.Enough.{refused-last, overlongChecks, overlong-answer, enough-answer, enough-words}
 use Rattle.input.specs.Input.{widthOf, heightOf, isBinned, recordOf, readingsOf, maxPixels, maxReadings}
 use Rattle.input.specs.Checks.{area, inputChecks}
 use Rattle.input.proofs.Checking.{few-pixels}

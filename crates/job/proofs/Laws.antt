@@ -11,7 +11,7 @@ use Rattle.laws.proofs.Tests.{cases}
 use Rattle.laws.proofs.Parts.{part-at}
 use Rattle.checks.specs.Checks.{byAnswer}
 use Rattle.begin.specs.Begun.{started}
-use Rattle.chain.specs.Chain.{frameAnswer, frameWords}
+use Rattle.whole_frame.specs.Chain.{frameAnswer, frameWords}
 use Rattle.input.specs.Input.{widthOf, heightOf, binnedByte, isBinned, recordLength, recordOf, readingsAt, pairs, maxReadings}
 use Rattle.input.specs.Checks.{inputChecks}
 use Rattle.job.specs.declared.Job.{Job}

@@ -9,7 +9,7 @@ use Rattle.checks.specs.declared.Answer.{Answer}
 use Rattle.checks.specs.Checks.{verdict, byAnswer}
 use Rattle.layout.specs.Frame.{wordCount}
 use Rattle.begin.specs.Begun.{started}
-use Rattle.chain.specs.Chain.{frameAnswer, frameWords}
+use Rattle.whole_frame.specs.Chain.{frameAnswer, frameWords}
 use Rattle.input.specs.Input.{widthOf, heightOf, isBinned, recordOf, readingsOf, maxPixels}
 use Rattle.input.specs.Checks.{area, inputChecks}
 use Rattle.job.specs.declared.Job.{Job}

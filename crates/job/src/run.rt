@@ -13,13 +13,13 @@ use crate::Job;
 use crate::READINGS;
 use crate::bytes::decode;
 use begin::begin;
-use chain::frame_of;
 use checks::Answer;
 use input::PIXELS;
 use input::check_input;
 use numbers::least;
 use record::byte;
 use record::pair;
+use whole_frame::frame_of;
 
 // How many words a frame has, of so many pixels.
 fn word_count(binned: bool, pixels: usize) -> usize

@@ -25,7 +25,7 @@ use Rattle.board.specs.Update.{updateOf}
 use Rattle.board.specs.Ramp.{startOf}
 use Rattle.acquisition.specs.Feed.{feedOf, fedSums}
 use Rattle.acquisition.specs.ReadOut.{readOutOf, readOutWords}
-use Rattle.chain.specs.Chain.{frameAnswer, frameWords}
+use Rattle.whole_frame.specs.Chain.{frameAnswer, frameWords}
 use Rattle.input.specs.Input.{pairs}
 use Rattle.lines.specs.Lines.{lineText, linesText}
 use Rattle.job.specs.declared.Job.{Job}

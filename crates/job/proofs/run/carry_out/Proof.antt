@@ -13,7 +13,7 @@ use lib.Seq.{length-take-le, take-at}
 use Rattle.checks.specs.declared.Answer.the-variants.{Taken}
 use Rattle.checks.specs.Checks.{verdict}
 use Rattle.begin.specs.Begun.{started}
-use Rattle.chain.specs.Chain.{frameAnswer, frameWords}
+use Rattle.whole_frame.specs.Chain.{frameAnswer, frameWords}
 use Rattle.input.specs.Input.{pairs, readingsAt, maxPixels, maxReadings}
 use Rattle.input.specs.Checks.{inputChecks}
 use Rattle.job.specs.Job.{jobAnswer}

@@ -37,7 +37,7 @@ use Rattle.acquisition.proofs.Checked.{FeedTaken, feed-taken, feedable, read-ou
 use Rattle.acquisition.proofs.Laws as AcquisitionLaws
 use Rattle.begin.specs.Begun.{started, begun}
 use Rattle.begin.proofs.Beginning.{begun-then}
-use Rattle.chain.specs.Chain.{fed, readOut, frameAnswer}
+use Rattle.whole_frame.specs.Chain.{fed, readOut, frameAnswer}
 
 pub frame-is : (w h : ℕ) (binned : Bool) (bytes : List ℕ) (xs : List ℕ) (sums : List ℤ) (output : List ℕ)
     → let b = started w h binned bytes .board in

@@ -1,7 +1,7 @@
 // A whole frame in one call.
 ghost use mathlib.Core.Path.{_≡_};
 ghost use Rattle.checks.specs.Checks.{first};
-ghost use Rattle.chain.specs.Chain.{fed, readOut, frameAnswer, frameSums, frameWords};
+ghost use Rattle.whole_frame.specs.Chain.{fed, readOut, frameAnswer, frameSums, frameWords};
 use acquisition::feed::check_feed;
 use acquisition::read_out::word_count;
 use begin::begin;

@@ -30,7 +30,7 @@ use Rattle.board.proofs.Soundness.{sound-parts, wanted-nine}
 use Rattle.board.proofs.Checked.{ramp-taken}
 use Rattle.begin.specs.Begun.{updated, started}
 use Rattle.begin.proofs.Beginning.{started-area}
-use Rattle.chain.specs.Chain.{frameAnswer, frameWords}
+use Rattle.whole_frame.specs.Chain.{frameAnswer, frameWords}
 
 -- what Feed answers to too many readings
 crowded : (b : Board) (xs : List ℕ) (sums : List ℤ) → 9 * area b < length xs

@@ -1,4 +1,4 @@
--- `chain::check` meets its contract.
+-- `whole_frame::check` meets its contract.
 use mathlib.Core.Bool.{true}
 use mathlib.Core.Path.{_≡_, sym, _∙_}
 use borrow.Author.Needs.{needs}
@@ -9,9 +9,9 @@ use Rattle.board.specs.Board.{sidesTaken}
 use Rattle.acquisition.specs.Feed.{feedChecks, feedOf}
 use Rattle.board.proofs.Soundness.{sound-parts}
 use Rattle.acquisition.proofs.Checked.{feed-taken}
-use Rattle.chain.proofs.Whole.{then-read-out}
-use Rattle.chain.proofs.check.Statement.{statement}
-use Rattle.chain.proofs.check.Tie as tie
+use Rattle.whole_frame.proofs.Whole.{then-read-out}
+use Rattle.whole_frame.proofs.check.Statement.{statement}
+use Rattle.whole_frame.proofs.check.Tie as tie
 
 -- where Feed's checks are passed
 module _ (c : tie.After-enum-told) where

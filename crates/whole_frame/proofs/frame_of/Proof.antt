@@ -1,15 +1,15 @@
--- `chain::frame_of` meets its contract.
+-- `whole_frame::frame_of` meets its contract.
 use mathlib.Core.Path.{_≡_, refl, sym, _∙_}
 use borrow.Author.Needs.{needs}
 use denote.Ref.{now}
 use Rattle.checks.specs.declared.Answer.the-variants.{Taken}
 use Rattle.checks.specs.Checks.{first}
 use Rattle.checks.proofs.Laws.{both-taken}
-use Rattle.chain.specs.Chain.{fed, readOut, frameAnswer, frameSums, frameWords}
+use Rattle.whole_frame.specs.Chain.{fed, readOut, frameAnswer, frameSums, frameWords}
 use Rattle.begin.proofs.Beginning.{started-unfed}
-use Rattle.chain.proofs.Whole.{frame-is, frame-feedable, frame-readable, sums-are, words-are}
-use Rattle.chain.proofs.frame_of.Statement.{statement}
-use Rattle.chain.proofs.frame_of.Tie as tie
+use Rattle.whole_frame.proofs.Whole.{frame-is, frame-feedable, frame-readable, sums-are, words-are}
+use Rattle.whole_frame.proofs.frame_of.Statement.{statement}
+use Rattle.whole_frame.proofs.frame_of.Tie as tie
 
 -- the answer of the five
 answer-is : (c : tie.After-then) → let a = c .before .before .before .before .before .before .before .before .before .args in
