@@ -11,7 +11,7 @@ use Rattle.numbers.specs.Wrapped.{wrapped}
 use Rattle.numbers.proofs.Wraps.{by-wrap}
 use Rattle.laws.proofs.Ints.{up, dn, sum, neg-up, neg-dn, is-le, not-le, signed}
 
-module _ (s : ℕ) (small : s ≤ 2211705) where
+module _ (s : ℕ) (small : s ≤ 268435456) where
   -- b moves 128 − s to −2^31
   abbrev Lowest : ℤ → Type 0
   Lowest b = (up b + 2147483776 ≡ dn b + s) ⊎ ((up b + 2147483776 ≡ dn b + s + 4294967296) × (s < 128))
