@@ -56,10 +56,6 @@ module _ (w h : ℕ) (binned : Bool) (bytes xs : List ℕ) (sums : List ℤ) (ou
   answers = demands .demand-1 w h binned (first-three .0) calls
 
   -- the ledger takes what the board takes
-  update-taken : refusal (fresh w h binned) (update bytes) ≡ Taken
-  unfolding moments
-  update-taken = sym (answers .0 .answer) ∙ first-three .1
-
   start-taken : refusal (next (fresh w h binned) (update bytes)) start ≡ Taken
   unfolding moments
   start-taken = sym (answers .1 .0 .answer) ∙ first-three .2

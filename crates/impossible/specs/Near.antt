@@ -1,5 +1,5 @@
 -- Entries that are surely possible. No rule of the product stands here: it is a quicker test, and where it fails the rule itself is asked.
-use Prim.Native.Nat.{ℕ, _*_}
+use Prim.Native.Nat.{ℕ}
 use mathlib.Core.Bool.{Bool, cond, _&&_}
 use lib.Dec.{ltb}
 use lib.IntN.{ℤ, pos, _+ℤ_, _-ℤ_}

@@ -1,16 +1,12 @@
 -- Laws of the naturals.
---     max-assoc       the largest of three
 --     less            a difference, as an integer
 --     quarter         a product of two even numbers
-use Prim.Native.Nat.{ℕ, _-_, _*_, _≤_, max}
+use Prim.Native.Nat.{ℕ, _-_, _*_, _≤_}
 use mathlib.Core.Path.{_≡_}
 use native.Mathlib.Nat.{mul-assoc, mul-left-comm, mul-comm}
 use native.Mathlib.Omega.{arith}
 use lib.IntN.{pos, negℤ, _-ℤ_}
 use Rattle.laws.proofs.Ints.{sum, neg-up, neg-dn, same}
-
-pub max-assoc : (x y z : ℕ) → max (max x y) z ≡ max x (max y z)
-max-assoc x y z = omega arith
 
 pub less : (a b : ℕ) → b ≤ a → pos a -ℤ pos b ≡ pos (a - b)
 less a b h = same (pos a -ℤ pos b) (pos (a - b)) (omega (arith, sum (pos a) (negℤ (pos b)), neg-up (pos b), neg-dn (pos b)))

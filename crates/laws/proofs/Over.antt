@@ -1,5 +1,4 @@
 -- The laws of `over`.
---     over-length     it keeps the length
 --     over-at         past what was read, a place is as it was
 --     over-more       one reading more is one store
 --     over-part       a part that holds all the places that are reached
@@ -12,12 +11,6 @@ use lib.ListN.{length, getD, take, drop, set, take-append-drop}
 use Rattle.laws.specs.Lists.{over}
 
 module _ {A B : Type 0} (f : A → B → B) where
-  pub over-length : (rs : List A) (ss : List B) → length (over f rs ss) ≡ length ss
-  unfolding over
-  over-length [] ss = refl
-  over-length (r ∷ rs) [] = refl
-  over-length (r ∷ rs) (s ∷ ss) = ap suc (over-length rs ss)
-
   pub over-at : (rs : List A) (ss : List B) (i : ℕ) (e : B) → getD (over f (take i rs) ss) i e ≡ getD ss i e
   unfolding over
   over-at rs ss zero e = refl

@@ -12,7 +12,7 @@ use mir.Syntax.{w32}
 use mir.Val.{SFits}
 use Rattle.laws.proofs.Ints.{up, dn, sum, fits, signed}
 use Rattle.laws.proofs.Tests.{clash}
-use Rattle.entries.specs.Mark.{mark, marked, sampleOf}
+use Rattle.entries.specs.Mark.{marked, sampleOf}
 use Rattle.entries.proofs.Marks.{sample-is}
 use Rattle.words.specs.Word.{smaller}
 use Rattle.entries.specs.Range.{entryInRange}

@@ -1,5 +1,5 @@
 -- What the word of entries reads as. `proofs/Laws.antt` shows it.
-use Prim.Native.Nat.{ℕ, _*_, _^_, _≤_, _<_}
+use Prim.Native.Nat.{ℕ, _*_, _≤_, _<_}
 use mathlib.Core.Bool.{true, false}
 use mathlib.Core.List.{List}
 use mathlib.Core.Option.{none, some}

@@ -1,8 +1,7 @@
 -- `impossible::all_near` meets its contract: four quarters that are near, and what is left over.
 use mathlib.Core.Path.{_≡_, sym, _∙_}
-use mathlib.Core.Bool.{true, _&&_}
-use mathlib.Core.List.{List}
-use Prim.Native.Nat.{ℕ, _+_, _-_, _/_}
+use mathlib.Core.Bool.{true}
+use Prim.Native.Nat.{_+_, _-_, _/_}
 use native.Mathlib.Nat.{add-sub-cancel-left, sub-zero}
 use borrow.Author.Needs.{needs}
 use lib.IntN.{ℤ, pos, _-ℤ_}

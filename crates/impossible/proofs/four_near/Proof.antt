@@ -1,19 +1,15 @@
 -- `impossible::four_near` meets its contract: the bits of each entry are among those of all.
-use mathlib.Core.Path.{_≡_, _∙_}
-use mathlib.Core.Bool.{true}
-use Prim.Native.Nat.{ℕ, _-_, _≤_}
+use Prim.Native.Nat.{_-_, _≤_}
 use native.Mathlib.Omega.{arith}
 use borrow.Author.Needs.{needs}
-use lib.Bits.{bitOr}
-use lib.IntN.{ℤ, pos, _+ℤ_}
+use lib.IntN.{ℤ, pos}
 use lib.ListN.{length, getD}
 use lib.Signed.{_≤ℤ_}
 use denote.Ref.{now}
 use mir.Syntax.{w32}
-use mir.Val.{SFits, toZ, ofZ}
+use mir.Val.{toZ, ofZ}
 use mir.Facts.{toZ-ofZ}
 use Rattle.laws.proofs.Tests.{true-and}
-use Rattle.laws.proofs.Bits.{or-above}
 use Rattle.laws.proofs.Ints.{back, sum, fits, signed}
 use Rattle.impossible.proofs.Near.{Bound, together, bound-more, bound-near}
 use Rattle.impossible.proofs.four_near.Statement.{statement}

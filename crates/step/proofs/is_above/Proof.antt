@@ -1,5 +1,4 @@
 -- `step::is_above` meets its contract: the threshold fits 15 bits.
-use mathlib.Core.Path.{_≡_}
 use native.Mathlib.Omega.{arith}
 use borrow.Author.Needs.{needs}
 use borrow.Author.Tests.{leb-true}

@@ -1,9 +1,7 @@
 -- `step::signed` meets its contract: the reading fits 15 bits.
 use native.Mathlib.Omega.{arith}
 use borrow.Author.Tests.{leb-true}
-use lib.IntN.{pos}
 use mir.Syntax.{w16}
-use mir.Val.{SFits}
 use Rattle.laws.proofs.Ints.{toZ-nat}
 use Rattle.readings.specs.Readings.{maxReading}
 use Rattle.step.proofs.signed.Statement.{statement}
