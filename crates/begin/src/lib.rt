@@ -3,6 +3,8 @@ ghost use mathlib.Core.Path.{_≡_};
 ghost use Rattle.begin.specs.Begun.{begun};
 use board::Board;
 use board::Outcome;
+use control::start;
+use control::update;
 
 // The first refusal of the three, and the board that they leave.
 pub fn begin(width: usize, height: usize, binned: bool, record: &[u8]) -> Outcome
@@ -11,10 +13,10 @@ pub fn begin(width: usize, height: usize, binned: bool, record: &[u8]) -> Outcom
     let opened = Board::open(width, height, binned);
     let open_answer = opened.answer;
     let open_board = opened.board;
-    let updated = open_board.update(record);
+    let updated = update(open_board, record);
     let update_answer = updated.answer;
     let update_board = updated.board;
-    let started = update_board.start();
+    let started = start(update_board);
     let start_answer = started.answer;
     let board = started.board;
     Outcome {

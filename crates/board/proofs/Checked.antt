@@ -1,18 +1,16 @@
--- What the checks that Feed and Read out begin with have shown, and back; and of a sound board, what Covered says of it.
+-- What the checks that Feed and Read out begin with have shown, and back.
 use Prim.Native.Nat.{ℕ}
-use mathlib.Core.Bool.{Bool, true, false, cond}
-use mathlib.Core.Logic.{_↔_}
-use mathlib.Core.Path.{_≡_, refl}
+use mathlib.Core.Bool.{true}
+use mathlib.Core.List.{List, [], _∷_, _++_}
+use mathlib.Core.Path.{_≡_, sym, _∙_}
 use borrow.Author.Tests.{eqb-true, eq-eqb, not-false}
-use Rattle.settings.specs.Covered.{isCovered}
+use Rattle.checks.specs.declared.Answer.{Answer}
 use Rattle.checks.specs.declared.Answer.the-variants.{Taken}
 use Rattle.checks.specs.Checks.{verdict}
-use Rattle.checks.proofs.Laws.{both-taken, when-taken}
+use Rattle.checks.proofs.Laws.{verdict-append, both-taken, when-taken}
 use Rattle.board.specs.declared.Board.{Board}
-use Rattle.board.specs.declared.Coverage.the-variants.{Covered, Uncovered}
 use Rattle.board.specs.Board.{area, sound}
-use Rattle.board.specs.Ramp.{rampChecks}
-use Rattle.board.specs.Covered.{coverageOf}
+use Rattle.board.specs.RampChecks.{rampChecks}
 
 pub record RampTaken (b : Board) (sumsLength : ℕ) : Type 0 where
   pub whole : sound b ≡ true
@@ -35,10 +33,11 @@ pub ramp-passes : (b : Board) (n : ℕ) → RampTaken b n → verdict (rampCheck
 unfolding verdict
 ramp-passes b n t = rw (t .whole, t .running, eq-eqb _ _ (t .length-is))
 
-says-covered : (t : Bool) → (cond t Covered Uncovered ≡ Covered) ↔ (t ≡ true)
-says-covered true = ((λ e. refl), λ e. refl)
-says-covered false = ((λ e. cc), λ e. cc)
-
-pub covered-is : (b : Board) → sound b ≡ true → (coverageOf b ≡ Covered) ↔ (isCovered (b .«in_force») ≡ true)
-unfolding coverageOf verdict
-covered-is b s = rw s (says-covered (isCovered (b .«in_force»)))
+-- the checks of a ramp and three more, all taken
+pub all-taken : (ramp : List Answer) (x y z : Answer) → verdict (ramp ++ (x ∷ y ∷ z ∷ [])) ≡ Taken → (verdict ramp ≡ Taken) × (x ≡ Taken) × (y ≡ Taken) × (z ≡ Taken)
+unfolding verdict
+all-taken ramp x y z e =
+    let a = both-taken (verdict ramp) (verdict (x ∷ y ∷ z ∷ [])) (sym (verdict-append ramp (x ∷ y ∷ z ∷ [])) ∙ e) in
+    let p = both-taken x _ (a .1) in
+    let q = both-taken y _ (p .1) in
+    (a .0, p .0, q .0, both-taken z Taken (q .1) .0)

@@ -1,10 +1,9 @@
--- A board: its sides, what *sound* means, and the parts that the operations change.
-use Prim.Native.Nat.{ℕ, _+_, _*_}
+-- A board: its sides, what *sound* means, one that was just opened, and what operations leave of it.
+use Prim.Native.Nat.{ℕ, _*_}
 use mathlib.Core.Bool.{Bool, true, false, not, _&&_, _||_}
 use lib.Dec.{leb, eqb}
 use Rattle.sides.specs.Sides.{ofSides}
 unfoldable pub use Rattle.sides.specs.Sides.{sidesTaken}
-use Rattle.settings.specs.declared.Settings.{Settings}
 use Rattle.settings.specs.Settings.{defaults, inRange}
 use Rattle.checks.specs.declared.Answer.{Answer}
 use Rattle.checks.specs.Checks.{when, byAnswer}
@@ -53,18 +52,6 @@ opened width height binned = record {
   running = false;
   fed = 0;
 }
-
--- other settings wait
-abbrev pub withWaiting : Settings → Board → Board
-withWaiting s b = record { width = b .width; height = b .height; binned = b .binned; waiting = s; «in_force» = b .«in_force»; running = b .running; fed = b .fed }
-
--- a ramp begins: the waiting settings are in force
-abbrev pub begun : Board → Board
-begun b = record { width = b .width; height = b .height; binned = b .binned; waiting = b .waiting; «in_force» = b .waiting; running = true; fed = 0 }
-
--- more readings are fed
-abbrev pub extended : ℕ → Board → Board
-extended count b = record { width = b .width; height = b .height; binned = b .binned; waiting = b .waiting; «in_force» = b .«in_force»; running = b .running; fed = b .fed + count }
 
 -- the ramp ends
 abbrev pub ended : Board → Board

@@ -1,7 +1,6 @@
--- The board, what sound means, and the checks and the outcomes of Open, Update, Start, Drop and Covered.
+-- The board, what sound means, what operations keep of it, Open, and the checks of a running ramp.
 pub mod Board
+pub mod RampChecks
+pub mod Kept
 pub mod Open
-pub mod Update
-pub mod Ramp
-pub mod Covered
 pub mod Laws

@@ -1,28 +1,11 @@
-// A board that was just opened, a ramp that ends, and what an operation leaves.
+// A ramp that ends, and what an operation leaves.
 ghost use mathlib.Core.Path.{_≡_};
 ghost use Rattle.board.specs.Board as Def;
 use crate::Board;
 use crate::Outcome;
 use checks::Answer;
-use settings::Settings;
 
 impl Board {
-    // A board that was just opened.
-    pub(crate) fn opened(width: usize, height: usize, binned: bool) -> Board
-        ensures { λ r. ⌜ r ≡ Def.opened width height binned ⌝ }
-    {
-        let defaults = Settings::defaults();
-        Board {
-            width: width,
-            height: height,
-            binned: binned,
-            waiting: defaults,
-            in_force: defaults,
-            running: false,
-            fed: 0,
-        }
-    }
-
     // The ramp ends.
     pub fn ended(self) -> Board
         ensures { λ r. ⌜ r ≡ Def.ended self ⌝ }

@@ -1,10 +1,9 @@
 // A ramp board: its sides, its settings and the ramp that runs.
 use checks::Answer;
-use checks::Refusal;
 use settings::Settings;
 
-mod changes;
-mod operations;
+pub mod changes;
+mod open;
 mod sound;
 
 pub struct Board {
@@ -23,11 +22,4 @@ pub struct Board {
 pub struct Outcome {
     pub answer: Answer,
     pub board: Board,
-}
-
-// What Covered says of the settings in force.
-pub enum Coverage {
-    Covered,
-    Uncovered,
-    Refused(Refusal),
 }

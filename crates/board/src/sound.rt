@@ -3,7 +3,7 @@ ghost use mathlib.Core.Path.{_≡_};
 ghost use Rattle.checks.specs.Checks.{verdict};
 ghost use Rattle.board.specs.Board as Def;
 ghost use Rattle.board.specs.Board.{ofTakenSides, unsound};
-ghost use Rattle.board.specs.Ramp.{rampChecks};
+ghost use Rattle.board.specs.RampChecks.{rampChecks};
 use crate::Board;
 use checks::Answer;
 use sides::area;
@@ -37,7 +37,7 @@ impl Board {
     }
 
     // The check that every operation begins with.
-    pub(crate) fn check_sound(self) -> Answer
+    pub fn check_sound(self) -> Answer
         ensures { λ r. ⌜ r ≡ unsound self ⌝ }
     {
         Answer::when(!self.sound(), checks::UNSOUND_BOARD)

@@ -5,6 +5,7 @@
 --     found-every     nothing fails a test that holds of every element
 --     found-below     what is found is below n
 --     found-none      where nothing is found, the test fails everywhere
+--     none-every      where no element is found that fails a test, it holds of every one
 --     found-same      the search turns only on the test's values
 --     found-append    a search in two parts
 --     found-start     a part from the start
@@ -13,13 +14,14 @@ use Prim.Native.Nat.{ℕ, zero, suc, _+_, _-_, _≤_, _<_}
 use mathlib.Core.Bool.{Bool, true, false, cond, not}
 use mathlib.Core.List.{List}
 use mathlib.Core.Path.{_≡_, refl, sym, subst, _∙_}
+use borrow.Author.Tests.{not-false}
 use native.Mathlib.Decide.{ℕ-discrete}
 use native.Mathlib.Nat.{add-zero, add-suc}
 use native.Mathlib.Numerals.{add-one}
 use native.Mathlib.Omega.{arith}
 use lib.ListN.{length, getD}
 use Rattle.laws.specs.Lists.{every}
-use Rattle.laws.proofs.Every.{every-at}
+use Rattle.laws.proofs.Every.{every-at, every-all}
 use Rattle.checks.specs.declared.Found.{Found}
 use Rattle.checks.specs.declared.Found.the-variants.{At, Nothing}
 use Rattle.checks.specs.Search.{orElse, firstPlace, shifted}
@@ -68,6 +70,9 @@ found-none test (suc n) e i l =
     at : Dec (i ≡ n) → test n ≡ false → (i < n → test i ≡ false) → test i ≡ false
     at (yes q) here before = rw q here
     at (no ne) here before = before (omega arith)
+
+pub none-every : {A : Type 0} (test : A → Bool) (l : List A) (d : A) → firstPlace (length l) (λ i. not (test (getD l i d))) ≡ Nothing → every test l ≡ true
+none-every test l d e = every-all test l d (λ i h. not-false _ (found-none (λ i. not (test (getD l i d))) (length l) e i h))
 
 pub found-below : (test : ℕ → Bool) (n p : ℕ) → firstPlace n test ≡ At p → p < n
 unfolding firstPlace

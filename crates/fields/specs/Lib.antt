@@ -1,2 +1,3 @@
 -- The fields of a record.
 pub mod Fields
+pub mod Laws

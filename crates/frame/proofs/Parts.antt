@@ -23,10 +23,11 @@ use Rattle.ramp.proofs.Agrees.{agrees-none}
 use Rattle.ramp.proofs.Honest.{never-damaged}
 use Rattle.board.specs.declared.Board.{Board}
 use Rattle.board.specs.Board.{wanted}
-use Rattle.acquisition.specs.Feed.{feedChecks, feedOf, fedSums}
-use Rattle.acquisition.specs.ReadOut.{readOutChecks, readOutOf, readOutWords}
+use Rattle.feed.specs.Feed.{feedChecks, feedOf, fedSums}
+use Rattle.read_out.specs.ReadOut.{readOutChecks, readOutOf, readOutWords}
 use Rattle.board.proofs.Soundness.{sound-parts, sides-of}
-use Rattle.acquisition.proofs.Checked.{feed-taken, feed-passes, read-out-taken}
+use Rattle.feed.proofs.Checked.{feed-taken, feed-passes}
+use Rattle.read_out.proofs.Checked.{read-out-taken}
 use Rattle.history.specs.Demands.{joined}
 use Rattle.begin.specs.Begun.{started, begun}
 use Rattle.begin.proofs.Beginning.{begun-sound, started-unfed}

@@ -15,11 +15,11 @@ use Rattle.ramp.proofs.Agrees.{agrees-full}
 use Rattle.words.specs.Word.{wordOf}
 use Rattle.layout.specs.Frame.{wordAt, frameOf}
 use Rattle.layout.proofs.Grid.{pixels-on, pixels-some}
-use Rattle.board.specs.declared.Coverage.the-variants.{Covered}
-use Rattle.acquisition.specs.ReadOut.{readOutOf, readOutWords}
-use Rattle.board.specs.Covered.{coverageOf}
-use Rattle.board.proofs.Checked.{covered-is}
-use Rattle.acquisition.proofs.Checked.{ReadOutTaken, read-out-taken}
+use Rattle.control.specs.declared.Coverage.the-variants.{Covered}
+use Rattle.read_out.specs.ReadOut.{readOutOf, readOutWords}
+use Rattle.control.specs.Covered.{coverageOf}
+use Rattle.control.proofs.Says.{covered-is}
+use Rattle.read_out.proofs.Checked.{ReadOutTaken, read-out-taken}
 use Rattle.history.specs.Calls.{readOut, Ledger, viewOf, refusal, Allowed}
 use Rattle.history.specs.Readings.{area, words, pixels, readingAt, frameFrom}
 use Rattle.history.specs.Demands.{FrameClaim}

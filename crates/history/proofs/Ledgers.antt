@@ -13,16 +13,17 @@ use Rattle.checks.specs.declared.Answer.{Answer}
 use Rattle.checks.specs.declared.Answer.the-variants.{Taken, Refused}
 use Rattle.checks.specs.Checks.{verdict, byAnswer}
 use Rattle.board.specs.declared.Board.{Board}
-use Rattle.board.specs.declared.Coverage.the-variants.{Covered, Uncovered}
+use Rattle.control.specs.declared.Coverage.the-variants.{Covered, Uncovered}
 use Rattle.board.specs.Board.{sound}
 use Rattle.board.specs.Open.{openOf}
-use Rattle.board.specs.Update.{updateOf}
-use Rattle.board.specs.Ramp.{startOf, dropOf}
-use Rattle.acquisition.specs.Feed.{feedOf, fedSums}
-use Rattle.acquisition.specs.ReadOut.{readOutOf, readOutWords}
-use Rattle.board.specs.Covered.{coveredChecks, orRefused, coverageOf}
-use Rattle.board.proofs.Laws.{laws}
-use Rattle.acquisition.proofs.Laws as AcquisitionLaws
+use Rattle.control.specs.Update.{updateOf}
+use Rattle.control.specs.Ramp.{startOf, dropOf}
+use Rattle.feed.specs.Feed.{feedOf, fedSums}
+use Rattle.read_out.specs.ReadOut.{readOutOf, readOutWords}
+use Rattle.control.specs.Covered.{coveredChecks, orRefused, coverageOf}
+use Rattle.control.proofs.Laws.{laws}
+use Rattle.feed.proofs.Laws as FeedLaws
+use Rattle.read_out.proofs.Laws as ReadOutLaws
 use Rattle.history.specs.Calls.{Call, update, start, feed, readOut, drop, covered, Ledger, fresh, viewOf, refusal, effect, next, answerOf, outcomeOf}
 use Rattle.history.specs.Demands.{Buffers}
 
@@ -75,7 +76,7 @@ buffers-are ℓ covered = tt
 pub call-sound : (b : Board) (c : Call) → sound (outcomeOf b c .board) ≡ sound b
 call-sound b (update bytes) = laws .stays-sound .update b bytes
 call-sound b start = laws .stays-sound .start b
-call-sound b (feed xs sums) = AcquisitionLaws.laws .stays-sound .feed b xs sums
-call-sound b (readOut sums output) = AcquisitionLaws.laws .stays-sound .read-out b sums output
+call-sound b (feed xs sums) = FeedLaws.laws .stays-sound b xs sums
+call-sound b (readOut sums output) = ReadOutLaws.laws .stays-sound b sums output
 call-sound b drop = laws .stays-sound .drop b
 call-sound b covered = refl

@@ -24,9 +24,10 @@ use Rattle.step.specs.Step.{step}
 use Rattle.ramp.proofs.Feeding.{feed-length, feed-past}
 use Rattle.ramp.proofs.Honest.{all-pass}
 use Rattle.board.specs.Board.{wanted}
-use Rattle.acquisition.specs.Feed.{fedSums}
+use Rattle.feed.specs.Feed.{fedSums}
 use Rattle.board.proofs.Checked.{RampTaken}
-use Rattle.acquisition.proofs.Checked.{feed-passes, read-out-passes}
+use Rattle.feed.proofs.Checked.{feed-passes}
+use Rattle.read_out.proofs.Checked.{read-out-passes}
 use Rattle.history.specs.Calls.{feed, readOut, Ledger, viewOf, refusal, effect, Allowed, afterTaken}
 use Rattle.history.specs.Readings.{area, words}
 use Rattle.history.proofs.Invariant.{Good, parts, sides, few, taken-good}

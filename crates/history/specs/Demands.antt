@@ -25,12 +25,12 @@ use Rattle.layout.specs.Frame.{frameOf}
 use Rattle.meaning.specs.Meaning.{readWord}
 use Rattle.words.specs.Laws.{Between}
 use Rattle.board.specs.declared.Board.{Board}
-use Rattle.board.specs.declared.Coverage.the-variants.{Covered}
+use Rattle.control.specs.declared.Coverage.the-variants.{Covered}
 use Rattle.board.specs.Board.{sound}
 use Rattle.board.specs.Open.{openOf}
-use Rattle.acquisition.specs.Feed.{fedSums}
-use Rattle.acquisition.specs.ReadOut.{readOutOf, readOutWords}
-use Rattle.board.specs.Covered.{coverageOf}
+use Rattle.feed.specs.Feed.{fedSums}
+use Rattle.read_out.specs.ReadOut.{readOutOf, readOutWords}
+use Rattle.control.specs.Covered.{coverageOf}
 use Rattle.history.specs.Calls.{Call, update, start, feed, readOut, drop, covered, Ledger, fresh, viewOf, refusal, next, outcomeOf, anySums, Moment, moments}
 use Rattle.history.specs.Readings.{area, words, pixels, exactSums, FirstOver, NeverOver, frameFrom}
 

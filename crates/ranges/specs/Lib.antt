@@ -1,2 +1,3 @@
 -- The range of each setting.
 pub mod Ranges
+pub mod Laws

@@ -1,12 +1,14 @@
 // The commands of a script, played on a board and on the sums that are lent.
 ghost use Prim.Native.Nat.{_≤_};
 use crate::show;
-use acquisition::feed::feed;
-use acquisition::read_out::read_out;
 use board::Board;
 use board::Outcome;
 use checks::Answer;
+use control::covered;
+use control::start;
+use feed::feed;
 use meaning::read_word;
+use read_out::read_out;
 use script::commands::Command;
 use script::numbers::MOST;
 use script::numbers::Numbers;
@@ -47,7 +49,7 @@ fn open(board: Board, width: usize, height: usize, binned: bool) -> Board {
 // Update with the first bytes.
 fn update(board: Board, bytes: &[u8], count: usize) -> Board {
     let n = least(count, bytes.len());
-    after(board.update(&bytes[..n]))
+    after(control::update(board, &bytes[..n]))
 }
 
 // Feed with the first readings.
@@ -94,7 +96,7 @@ fn print_sums(start: usize, count: usize, sums: &[i32]) {
 // A command that leaves the board as it is.
 fn aside(board: Board, command: Command, sums: &mut [i32]) {
     match command {
-        Command::Covered => show::coverage(board.covered()),
+        Command::Covered => show::coverage(covered(board)),
         Command::Word { word, truncation } => show::meaning(read_word(word, truncation)),
         Command::Poke { index, entry } => poke(index, entry, sums),
         Command::PrintSums { start, count } => print_sums(start, count, sums),
@@ -114,7 +116,7 @@ fn call(board: Board, command: Command, list: &Numbers, sums: &mut [i32]) -> Boa
             let bytes = bytes_of(list);
             update(board, &bytes, count)
         }
-        Command::Start => after(board.start()),
+        Command::Start => after(start(board)),
         Command::Feed { count, same } => {
             let readings = readings_of(list, same);
             feed_some(board, &readings, count, sums)
@@ -123,7 +125,7 @@ fn call(board: Board, command: Command, list: &Numbers, sums: &mut [i32]) -> Boa
             let mut words = [0; MOST];
             frame(board, sums, &mut words, count)
         }
-        Command::Drop => after(board.drop()),
+        Command::Drop => after(control::drop(board)),
         _ => {
             aside(board, command, sums);
             board

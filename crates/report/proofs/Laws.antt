@@ -21,10 +21,10 @@ use Rattle.words.specs.Word.{smallestMark, isNegative}
 use Rattle.layout.specs.Frame.{pixelsOf, wordAt, frameOf}
 use Rattle.board.specs.Board.{sidesTaken, sound}
 use Rattle.board.specs.Open.{openOf}
-use Rattle.board.specs.Update.{updateOf}
-use Rattle.board.specs.Ramp.{startOf}
-use Rattle.acquisition.specs.Feed.{feedOf, fedSums}
-use Rattle.acquisition.specs.ReadOut.{readOutOf, readOutWords}
+use Rattle.control.specs.Update.{updateOf}
+use Rattle.control.specs.Ramp.{startOf}
+use Rattle.feed.specs.Feed.{feedOf, fedSums}
+use Rattle.read_out.specs.ReadOut.{readOutOf, readOutWords}
 use Rattle.whole_frame.specs.Chain.{frameAnswer, frameWords}
 use Rattle.input.specs.Input.{pairs}
 use Rattle.lines.specs.Lines.{lineText, linesText}

@@ -1,2 +1,3 @@
 -- The sides of a board.
 pub mod Sides
+pub mod Laws

@@ -1,11 +1,11 @@
 // Feed and Read out alone: each on the board that Open, Update and Start give, with some readings fed.
 ghost use mathlib.Core.Path.{_≡_};
 ghost use Rattle.steps.specs.Steps.{withFed, feedAnswer, feedLeaves, readOutAnswer, readOutLeaves};
-use acquisition::feed::feed;
-use acquisition::read_out::read_out;
 use begin::begin;
 use board::Board;
 use checks::Answer;
+use feed::feed;
+use read_out::read_out;
 
 // The board with so many readings fed.
 fn with_fed(board: Board, count: usize) -> Board

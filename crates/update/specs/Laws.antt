@@ -53,8 +53,8 @@ pub record UpdateLaws : Type 0 where
   pub empty-map : (s : Settings) → updateOf s (0 ∷ 0 ∷ []) ≡ taken s
   -- the record 00 06 1F 33 03 (hexadecimal): threshold 13,087 and r = 3
   pub known-record : (s : Settings) → updateOf s (0x00 ∷ 0x06 ∷ 0x1F ∷ 0x33 ∷ 0x03 ∷ []) ≡ taken (withTruncation 3 (withThreshold 13087 s))
-  -- 2 to 8, each by a record that is just past what is taken (hexadecimal): no byte, one byte; map bits 12 and 15; a byte too few, one too many; weight byte 32;
-  -- threshold 16,384; r = 0 and 4; N = 0 and 10
+  -- 2 to 4, each by a record that is just past what is taken (hexadecimal): no byte, one byte; map bits 12 and 15; a byte too few, one too many. A bad field gives
+  -- its own refusal
   pub known-refusals : (s : Settings)
       → (updateOf s [] ≡ refusedWith 2 s)
       × (updateOf s (0x00 ∷ []) ≡ refusedWith 2 s)
@@ -62,12 +62,7 @@ pub record UpdateLaws : Type 0 where
       × (updateOf s (0x00 ∷ 0x80 ∷ []) ≡ refusedWith 3 s)
       × (updateOf s (0x00 ∷ 0x02 ∷ 0x00 ∷ []) ≡ refusedWith 4 s)
       × (updateOf s (0x00 ∷ 0x00 ∷ 0x00 ∷ []) ≡ refusedWith 4 s)
-      × (updateOf s (0x01 ∷ 0x00 ∷ 0x20 ∷ []) ≡ refusedWith 5 s)
       × (updateOf s (0x00 ∷ 0x02 ∷ 0x00 ∷ 0x40 ∷ []) ≡ refusedWith 6 s)
-      × (updateOf s (0x00 ∷ 0x04 ∷ 0x00 ∷ []) ≡ refusedWith 7 s)
-      × (updateOf s (0x00 ∷ 0x04 ∷ 0x04 ∷ []) ≡ refusedWith 7 s)
-      × (updateOf s (0x00 ∷ 0x08 ∷ 0x00 ∷ []) ≡ refusedWith 8 s)
-      × (updateOf s (0x00 ∷ 0x08 ∷ 0x0A ∷ []) ≡ refusedWith 8 s)
   -- all settings in range come of one record of bytes on any others
   pub reachable : (s t : Settings) → inRange s ≡ true → length (t .weights) ≡ 9
       → (bytes : List ℕ) × (every (λ b. ltb b 256) bytes ≡ true) × (updateOf t bytes ≡ taken s)

@@ -27,14 +27,15 @@ use Rattle.ramp.proofs.Honest.{all-possible}
 use Rattle.layout.specs.Frame.{wordCount, frameOf}
 use Rattle.layout.specs.Requires.{Readable}
 use Rattle.board.specs.declared.Board.{Board}
-use Rattle.board.specs.Board.{area, wanted, extended}
-use Rattle.board.specs.Ramp.{rampChecks}
-use Rattle.acquisition.specs.Feed.{feedChecks, feedOf, fedSums}
-use Rattle.acquisition.specs.ReadOut.{readOutChecks, readOutOf, readOutWords}
+use Rattle.board.specs.Board.{area, wanted}
+use Rattle.board.specs.RampChecks.{rampChecks}
+use Rattle.feed.specs.Feed.{feedChecks, extended, feedOf, fedSums}
+use Rattle.read_out.specs.ReadOut.{readOutChecks, readOutOf, readOutWords}
 use Rattle.board.proofs.Soundness.{sound-parts, sides-of, wanted-nine}
 use Rattle.board.proofs.Checked.{ramp-passes}
-use Rattle.acquisition.proofs.Checked.{FeedTaken, feed-taken, feedable, read-out-taken, readable-frame}
-use Rattle.acquisition.proofs.Laws as AcquisitionLaws
+use Rattle.feed.proofs.Checked.{FeedTaken, feed-taken, feedable}
+use Rattle.read_out.proofs.Checked.{read-out-taken, readable-frame}
+use Rattle.feed.proofs.Laws as FeedLaws
 use Rattle.begin.specs.Begun.{started, begun}
 use Rattle.begin.proofs.Beginning.{begun-then}
 use Rattle.whole_frame.specs.Chain.{fed, readOut, frameAnswer}
@@ -83,7 +84,7 @@ module _ (b : Board) (none : b .fed ≡ 0) (xs : List ℕ) (sums : List ℤ) (ta
   unfolding feedOf
   ramp-after =
       ramp-passes _ _ (record {
-        whole = rw taken at (AcquisitionLaws.laws .stays-sound .feed b xs sums) ∙ parts .ramp .whole;
+        whole = rw taken at (FeedLaws.laws .stays-sound b xs sums) ∙ parts .ramp .whole;
         running = parts .ramp .running;
         length-is = left-length ∙ parts .ramp .length-is;
       })

@@ -2,13 +2,13 @@
 ghost use mathlib.Core.Path.{_≡_};
 ghost use Rattle.checks.specs.Checks.{first};
 ghost use Rattle.whole_frame.specs.Chain.{fed, readOut, frameAnswer, frameSums, frameWords};
-use acquisition::feed::check_feed;
-use acquisition::read_out::word_count;
 use begin::begin;
 use board::Board;
 use checks::Answer;
+use feed::check_feed;
 use layout::write_frame;
 use ramp::feed;
+use read_out::word_count;
 
 // The checks of Feed and of a Read out after it, on a ramp with nothing fed. Read out's 14 would find nothing: what Feed leaves is possible.
 fn check(b: Board, readings: &[u16], sums: &[i32], words: &[u16]) -> Answer

@@ -9,7 +9,7 @@ use Rattle.checks.specs.Checks.{when, first, verdict}
 use Rattle.checks.proofs.Laws.{first-taken}
 use Rattle.board.specs.declared.Board.{Board}
 use Rattle.board.specs.Board.{area, ofTakenSides, sound, unsound}
-use Rattle.board.specs.Ramp.{rampChecks}
+use Rattle.board.specs.RampChecks.{rampChecks}
 use Rattle.board.proofs.Soundness.{sound-parts}
 use Rattle.board.proofs.Board.check_ramp.Statement.{statement}
 use Rattle.board.proofs.Board.check_ramp.Tie as tie

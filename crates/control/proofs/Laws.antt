@@ -1,0 +1,87 @@
+-- The laws of the operations: what a taken one leaves is sound, and what each keeps.
+use Prim.Native.Nat.{ℕ}
+use mathlib.Core.Bool.{false}
+use mathlib.Core.List.{List, [], _∷_}
+use mathlib.Core.Path.{_≡_, refl}
+use native.Mathlib.Omega.{arith}
+use Rattle.settings.specs.declared.Settings.{Settings}
+use Rattle.settings.proofs.Parts.{InRange, in-range-parts, in-range-whole}
+use Rattle.update.specs.Update as SettingsUpdate
+use Rattle.update.proofs.Laws as UpdateLaws
+use Rattle.checks.specs.declared.Refusal.{Refusal}
+use Rattle.checks.specs.declared.Answer.{Answer}
+use Rattle.checks.specs.declared.Answer.the-variants.{Taken, Refused}
+use Rattle.checks.specs.Checks.{verdict, byAnswer}
+use Rattle.checks.proofs.Laws.{both-taken}
+use Rattle.board.specs.declared.Board.{Board}
+use Rattle.board.specs.Board.{sound, unsound, ended}
+use Rattle.board.proofs.Soundness.{Sound}
+use Rattle.board.proofs.Kept.{stays, ended-sound, same-settings, same-sides}
+use Rattle.control.specs.Update.{updateChecks, withWaiting, updateOf}
+use Rattle.control.specs.Ramp.{startChecks, begun, startOf, dropChecks, dropOf}
+use Rattle.control.specs.Covered.{coverageOf}
+use Rattle.control.specs.Laws.{Gives99, ControlLaws}
+
+-- ---- soundness
+
+begun-sound : (b : Board) → Sound b → Sound (begun b)
+begun-sound b s = record { sides = s .sides; waiting = s .waiting; in-force = s .waiting; fed = omega arith; idle = refl }
+
+waiting-sound : (b : Board) (t : Settings) → InRange t → Sound b → Sound (withWaiting t b)
+waiting-sound b t r s = record { sides = s .sides; waiting = r; in-force = s .in-force; fed = s .fed; idle = s .idle }
+
+-- the settings of a taken record are in range
+resulting-in-range : (s : Settings) (bytes : List ℕ) → InRange s → SettingsUpdate.updateOf s bytes .answer ≡ Taken → InRange (SettingsUpdate.resulting bytes s)
+unfolding SettingsUpdate.updateOf
+resulting-in-range s bytes r e =
+    in-range-parts _ (rw e at (UpdateLaws.laws .stays-in-range s bytes (in-range-whole s r)))
+
+update-sound : (b : Board) (bytes : List ℕ) → sound (updateOf b bytes .board) ≡ sound b
+unfolding updateOf verdict
+update-sound b bytes =
+    let answer = SettingsUpdate.updateOf (b .waiting) bytes .answer in
+    stays b _ (answer ∷ [])
+    (λ s e. waiting-sound b _ (resulting-in-range (b .waiting) bytes (s .waiting) (both-taken answer Taken (both-taken (unsound b) (verdict (answer ∷ [])) e .1) .0)) s)
+
+-- ---- what each keeps
+
+update-waiting : (a : Answer) (b : Board) (t : Settings) → byAnswer a (withWaiting t b) b ≡ withWaiting (byAnswer a (withWaiting t b) b .waiting) b
+update-waiting Taken b t = refl
+update-waiting (Refused r) b t = refl
+
+start-in-force : (a : Answer) (b : Board) → a ≡ Taken → byAnswer a (begun b) b .«in_force» ≡ b .waiting
+start-in-force a b e = rw e
+
+start-refused : (a : Answer) (b : Board) (r : Refusal) → a ≡ Refused r → byAnswer a (begun b) b ≡ b
+start-refused a b r e = rw e
+
+-- ---- 99
+
+unsound-99 : (b : Board) → sound b ≡ false → Gives99 b
+unfolding updateOf startOf dropOf coverageOf verdict
+unsound-99 b s = record {
+  update = λ bytes. rw s;
+  start = rw s;
+  drop = rw s;
+  covered = rw s;
+}
+
+pub laws : ControlLaws
+unfolding updateOf startOf dropOf
+laws = record {
+  stays-sound = record {
+    update = update-sound;
+    start = λ b. stays b (begun b) _ (λ s e. begun-sound b s);
+    drop = λ b. stays b (ended b) _ (λ s e. ended-sound b s);
+  };
+  unsound-99 = unsound-99;
+  sides-stay = record {
+    update = λ b bytes. same-sides (verdict (updateChecks b bytes)) b _ (refl, refl, refl);
+    start = λ b. same-sides (verdict (startChecks b)) b (begun b) (refl, refl, refl);
+    drop = λ b. same-sides (verdict (dropChecks b)) b (ended b) (refl, refl, refl);
+  };
+  update-waiting = λ b bytes. update-waiting (verdict (updateChecks b bytes)) b (SettingsUpdate.resulting bytes (b .waiting));
+  start-in-force = λ b e. start-in-force (verdict (startChecks b)) b e;
+  start-refused = λ b r e. start-refused (verdict (startChecks b)) b r e;
+  drop-keeps = λ b. same-settings (verdict (dropChecks b)) b (ended b) (refl, refl);
+}

@@ -1,0 +1,3 @@
+-- Feed: its checks, its outcome, and its laws.
+pub mod Feed
+pub mod Laws

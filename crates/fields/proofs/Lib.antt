@@ -1,0 +1,2 @@
+-- The refusals of the fields.
+pub mod Laws

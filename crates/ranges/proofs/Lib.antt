@@ -1,0 +1,2 @@
+-- The ends of each range.
+pub mod Laws

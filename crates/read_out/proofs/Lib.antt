@@ -1,0 +1,3 @@
+-- What the checks of Read out have shown, and its laws.
+pub mod Checked
+pub mod Laws
