@@ -1,4 +1,4 @@
--- A board: its sides, what *sound* means, one that was just opened, and what operations leave of it.
+-- A board, what *sound* means, and what opening, the end of a ramp and a refusal leave.
 use Prim.Native.Nat.{ℕ, _*_}
 use mathlib.Core.Bool.{Bool, true, false, not, _&&_, _||_}
 use lib.Dec.{leb, eqb}
@@ -18,7 +18,7 @@ area b = b .width * b .height
 abbrev pub wanted : Board → ℕ
 wanted b = b .«in_force» .samples * area b
 
--- a number of a board whose sides Open takes, and 0 for any other
+-- n for sides that Open takes, and 0 for any other
 abbrev pub ofTakenSides : Board → ℕ → ℕ
 ofTakenSides b n = ofSides (b .width) (b .height) (b .binned) n
 
@@ -30,7 +30,7 @@ fedWithin b = leb (b .fed) (wanted b)
 abbrev pub idleUnfed : Board → Bool
 idleUnfed b = b .running || eqb (b .fed) 0
 
--- *sound*: Open takes the sides, Update could leave the settings, waiting and in force, and the count of readings fits
+-- *sound*: sides that Open would take, both settings within Update's ranges, at most N × M readings fed (N in force), and none fed while no ramp runs
 unfoldable pub sound : Board → Bool
 sound b =
     sidesTaken (b .width) (b .height) (b .binned)

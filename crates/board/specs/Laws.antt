@@ -9,7 +9,7 @@ use Rattle.board.specs.Board.{sidesTaken, sound, opened}
 use Rattle.board.specs.Open.{openOf}
 
 pub record BoardLaws : Type 0 where
-  -- a taken Open gives a board with the defaults, and any other sides are refused with 1
+  -- sides that are taken give a board with the defaults; any other are refused with 1
   pub open-taken : (w h : ℕ) (binned : Bool) → sidesTaken w h binned ≡ true → openOf w h binned ≡ record { answer = Taken; board = opened w h binned }
   pub open-refused : (w h : ℕ) (binned : Bool) → sidesTaken w h binned ≡ false → openOf w h binned .answer ≡ Refused (refusal 1)
   -- a taken Open gives a sound board, a refused one a board that isn't

@@ -3,10 +3,10 @@ use Prim.Native.Nat.{ℕ}
 use Rattle.checks.specs.declared.Answer.{Answer}
 use Rattle.checks.specs.declared.Answer.the-variants.{Taken, Refused}
 
-abbrev pub numberOf : Answer → ℕ
-numberOf Taken = 0
-numberOf (Refused r) = r .number
+abbrev pub refusalNumber : Answer → ℕ
+refusalNumber Taken = 0
+refusalNumber (Refused r) = r .number
 
-abbrev pub placeOf : Answer → ℕ
-placeOf Taken = 0
-placeOf (Refused r) = r .place
+abbrev pub refusalPlace : Answer → ℕ
+refusalPlace Taken = 0
+refusalPlace (Refused r) = r .place

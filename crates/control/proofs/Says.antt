@@ -9,10 +9,13 @@ use Rattle.board.specs.Board.{sound}
 use Rattle.control.specs.declared.Coverage.the-variants.{Covered, Uncovered}
 use Rattle.control.specs.Covered.{coverageOf}
 
+pub says : (b : Board) → sound b ≡ true → coverageOf b ≡ cond (isCovered (b .«in_force»)) Covered Uncovered
+unfolding coverageOf verdict
+says b s = rw s
+
 says-covered : (t : Bool) → (cond t Covered Uncovered ≡ Covered) ↔ (t ≡ true)
 says-covered true = ((λ e. refl), λ e. refl)
 says-covered false = ((λ e. cc), λ e. cc)
 
 pub covered-is : (b : Board) → sound b ≡ true → (coverageOf b ≡ Covered) ↔ (isCovered (b .«in_force») ≡ true)
-unfolding coverageOf verdict
-covered-is b s = rw s (says-covered (isCovered (b .«in_force»)))
+covered-is b s = rw (says b s) (says-covered (isCovered (b .«in_force»)))

@@ -19,6 +19,6 @@ abbrev pub orRefused : Answer → Coverage → Coverage
 orRefused Taken says = says
 orRefused (Refused r) says = Coverage.Refused r
 
--- of the settings in force
+-- 99, or whether the settings in force are covered
 unfoldable pub coverageOf : Board → Coverage
 coverageOf b = orRefused (verdict (coveredChecks b)) (cond (isCovered (b .«in_force»)) Covered Uncovered)

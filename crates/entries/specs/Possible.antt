@@ -13,11 +13,11 @@ use Rattle.entries.specs.Mark.{mark}
 abbrev pub maxProduct : ℕ
 maxProduct = maxWeight * maxReading
 
--- at most 245,745 × k from 128, or the mark of one of the samples 1 to k
+-- from 128 − 245,745 × k to 128 + 245,745 × k, or a mark with n from 1 to k
 unfoldable pub possibleAfter : ℕ → ℤ → Bool
 possibleAfter k e =
-    leZ (pos pedestal -ℤ pos (k * maxProduct)) e && leZ e (pos pedestal +ℤ pos (k * maxProduct))
-    || leZ (mark 1) e && leZ e (mark k)
+    (leZ (pos pedestal -ℤ pos (k * maxProduct)) e && leZ e (pos pedestal +ℤ pos (k * maxProduct)))
+    || (leZ (mark 1) e && leZ e (mark k))
 
 -- *possible* after k samples, the same under all settings
 abbrev pub possible : Settings → ℕ → ℤ → Bool

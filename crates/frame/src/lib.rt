@@ -1,6 +1,6 @@
 // A whole frame in one call, and Feed and Read out alone, for C and Rust: a refusal's number, 0 if there is none, and its place.
 ghost use mathlib.Core.Path.{_≡_};
-ghost use Rattle.checks.specs.Told.{numberOf, placeOf};
+ghost use Rattle.checks.specs.Told.{refusalNumber, refusalPlace};
 ghost use Rattle.whole_frame.specs.Chain.{frameAnswer, frameSums, frameWords};
 ghost use Rattle.steps.specs.Steps.{feedAnswer, feedLeaves, readOutAnswer, readOutLeaves};
 use checks::told::told;
@@ -20,8 +20,8 @@ pub extern "C" fn ramp_frame(
     words: &mut [u16],
     place: &mut usize,
 ) -> u8
-    ensures number { λ r. ⌜ r ≡ numberOf (frameAnswer width height binned (now («record» .entry)) (now (readings .entry)) (now (sums .entry)) (now (words .entry))) ⌝ }
-    ensures place { λ r. ⌜ now (place .exit) ≡ placeOf (frameAnswer width height binned (now («record» .entry)) (now (readings .entry)) (now (sums .entry)) (now (words .entry))) ⌝ }
+    ensures number { λ r. ⌜ r ≡ refusalNumber (frameAnswer width height binned (now («record» .entry)) (now (readings .entry)) (now (sums .entry)) (now (words .entry))) ⌝ }
+    ensures place { λ r. ⌜ now (place .exit) ≡ refusalPlace (frameAnswer width height binned (now («record» .entry)) (now (readings .entry)) (now (sums .entry)) (now (words .entry))) ⌝ }
     ensures sums { λ r. ⌜ now (sums .exit) ≡ frameSums width height binned (now («record» .entry)) (now (readings .entry)) (now (sums .entry)) (now (words .entry)) ⌝ }
     ensures words { λ r. ⌜ now (words .exit) ≡ frameWords width height binned (now («record» .entry)) (now (readings .entry)) (now (sums .entry)) (now (words .entry)) ⌝ }
 {
@@ -43,8 +43,8 @@ pub extern "C" fn ramp_feed(
     sums: &mut [i32],
     place: &mut usize,
 ) -> u8
-    ensures number { λ r. ⌜ r ≡ numberOf (feedAnswer width height binned (now («record» .entry)) fed (now (readings .entry)) (now (sums .entry))) ⌝ }
-    ensures place { λ r. ⌜ now (place .exit) ≡ placeOf (feedAnswer width height binned (now («record» .entry)) fed (now (readings .entry)) (now (sums .entry))) ⌝ }
+    ensures number { λ r. ⌜ r ≡ refusalNumber (feedAnswer width height binned (now («record» .entry)) fed (now (readings .entry)) (now (sums .entry))) ⌝ }
+    ensures place { λ r. ⌜ now (place .exit) ≡ refusalPlace (feedAnswer width height binned (now («record» .entry)) fed (now (readings .entry)) (now (sums .entry))) ⌝ }
     ensures sums { λ r. ⌜ now (sums .exit) ≡ feedLeaves width height binned (now («record» .entry)) fed (now (readings .entry)) (now (sums .entry)) ⌝ }
 {
     told(
@@ -64,8 +64,8 @@ pub extern "C" fn ramp_read_out(
     words: &mut [u16],
     place: &mut usize,
 ) -> u8
-    ensures number { λ r. ⌜ r ≡ numberOf (readOutAnswer width height binned (now («record» .entry)) (now (sums .entry)) (now (words .entry))) ⌝ }
-    ensures place { λ r. ⌜ now (place .exit) ≡ placeOf (readOutAnswer width height binned (now («record» .entry)) (now (sums .entry)) (now (words .entry))) ⌝ }
+    ensures number { λ r. ⌜ r ≡ refusalNumber (readOutAnswer width height binned (now («record» .entry)) (now (sums .entry)) (now (words .entry))) ⌝ }
+    ensures place { λ r. ⌜ now (place .exit) ≡ refusalPlace (readOutAnswer width height binned (now («record» .entry)) (now (sums .entry)) (now (words .entry))) ⌝ }
     ensures words { λ r. ⌜ now (words .exit) ≡ readOutLeaves width height binned (now («record» .entry)) (now (sums .entry)) (now (words .entry)) ⌝ }
 {
     told(

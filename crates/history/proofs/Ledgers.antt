@@ -2,7 +2,7 @@
 --     opened-is       the board that Open gave is the one that the fresh ledger shows
 --     answer-is       it answers what the ledger's checks say
 --     board-is        it leaves the board that the next ledger shows
---     buffers-are     it writes what the ledger says
+--     gives-is        it gives what the ledger says
 --     call-sound      it leaves a sound board sound
 use Prim.Native.Nat.{ℕ}
 use mathlib.Core.Bool.{Bool, true, false, cond}
@@ -25,7 +25,7 @@ use Rattle.control.proofs.Laws.{laws}
 use Rattle.feed.proofs.Laws as FeedLaws
 use Rattle.read_out.proofs.Laws as ReadOutLaws
 use Rattle.history.specs.Calls.{Call, update, start, feed, readOut, drop, covered, Ledger, fresh, viewOf, refusal, effect, next, answerOf, outcomeOf}
-use Rattle.history.specs.Demands.{Buffers}
+use Rattle.history.specs.Demands.{Gives}
 
 pub opened-is : (w h : ℕ) (binned : Bool) → openOf w h binned .answer ≡ Taken → openOf w h binned .board ≡ viewOf (fresh w h binned)
 unfolding openOf
@@ -64,14 +64,14 @@ board-is ℓ (readOut sums output) = shown (refusal ℓ (readOut sums output)) (
 board-is ℓ drop = shown (refusal ℓ drop) (effect ℓ drop) ℓ refl
 board-is ℓ covered = unchanged (refusal ℓ covered) ℓ
 
-pub buffers-are : (ℓ : Ledger) (c : Call) → Buffers ℓ (viewOf ℓ) c
-unfolding fedSums readOutWords
-buffers-are ℓ (update bytes) = tt
-buffers-are ℓ start = tt
-buffers-are ℓ (feed xs sums) = refl
-buffers-are ℓ (readOut sums output) = refl
-buffers-are ℓ drop = tt
-buffers-are ℓ covered = tt
+pub gives-is : (ℓ : Ledger) (c : Call) → Gives ℓ (viewOf ℓ) c
+unfolding fedSums readOutWords coverageOf
+gives-is ℓ (update bytes) = tt
+gives-is ℓ start = tt
+gives-is ℓ (feed xs sums) = refl
+gives-is ℓ (readOut sums output) = refl
+gives-is ℓ drop = tt
+gives-is ℓ covered = refl
 
 pub call-sound : (b : Board) (c : Call) → sound (outcomeOf b c .board) ≡ sound b
 call-sound b (update bytes) = laws .stays-sound .update b bytes

@@ -1,6 +1,7 @@
 -- The proofs of the statements over lists of calls, and of the table of known ramps.
 pub mod Claims
 pub mod Ledgers
+pub mod Places
 pub mod Invariant
 pub mod Honest
 pub mod Coverage

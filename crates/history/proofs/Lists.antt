@@ -6,7 +6,7 @@ use mathlib.Core.List.{List, [], _∷_}
 use mathlib.Core.Path.{refl}
 use Rattle.history.specs.Calls.{Call, Ledger, viewOf, Allowed, Moment, moments}
 use Rattle.history.specs.Demands.{Every, Always, Demand1, Demand2, NoFalseWord, Honest}
-use Rattle.history.proofs.Ledgers.{opened-is, answer-is, board-is, buffers-are}
+use Rattle.history.proofs.Ledgers.{opened-is, answer-is, board-is, gives-is}
 use Rattle.history.proofs.Invariant.{Good, opened-good, keeps}
 use Rattle.history.proofs.Honest.{honest}
 use Rattle.history.proofs.Frames.{frame-is, frame-claim}
@@ -24,7 +24,7 @@ module _ (P : Moment → Type 0) (holds : Holds P) where
   always w h binned t calls = rw (opened-is w h binned t) (everywhere calls (opened-good w h binned t))
 
 pub demand-1 : Always Demand1
-demand-1 = always Demand1 (λ ℓ allowed good c. record { before = refl; answer = answer-is ℓ c; board = board-is ℓ c; buffers = buffers-are ℓ c })
+demand-1 = always Demand1 (λ ℓ allowed good c. record { before = refl; answer = answer-is ℓ c; board = board-is ℓ c; gives = gives-is ℓ c })
 
 pub demand-2 : Always Demand2
 demand-2 = always Demand2 (λ ℓ allowed good c sums output t. frame-is good sums output (rw (t .brings) at (t .taken)) (t .handed-on))

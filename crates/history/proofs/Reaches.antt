@@ -26,6 +26,7 @@ use Rattle.checks.specs.Checks.{verdict}
 use Rattle.readings.specs.Readings.{maxReading, readingInRange}
 use Rattle.board.specs.Board.{wanted}
 use Rattle.board.specs.Open.{openOf}
+use Rattle.control.proofs.Says.{says}
 use Rattle.history.specs.Calls.{Call, update, start, feed, readOut, Ledger, fresh, viewOf, refusal, effect, Allowed, anySums, afterTaken, Moment, moments}
 use Rattle.history.specs.Readings.{words}
 use Rattle.history.specs.Demands.{ReadsOut, Some, fedBy, joined, passable, Reached}
@@ -67,6 +68,7 @@ module _ (s : Settings) (xs : List ℕ) where
           output = blank ℓ;
           taken = record { brings = refl; taken = read-goes ramp (ap length e ∙ full); handed-on = ramp .handed };
           settings = is;
+          coverage = says (viewOf ℓ) (ramp .good .whole) ∙ rw is;
           readings = e;
         });
       }

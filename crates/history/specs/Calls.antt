@@ -40,7 +40,7 @@ pub record Ledger : Type 0 where
   pub running : Bool
   pub readings : List ℕ
 
--- the ledger at the start: the sides and binning of the Open, the defaults twice, and nothing else
+-- the ledger at the start: the sides and binning of the Open, the defaults waiting and in force, no ramp, no readings
 abbrev pub fresh : ℕ → ℕ → Bool → Ledger
 fresh width height binned = record { width = width; height = height; binned = binned; waiting = defaults; inForce = defaults; running = false; readings = [] }
 

@@ -1,6 +1,6 @@
 -- The three demands, over every list of calls on a board that Open gave. Read from top to bottom.
 use Prim.Native.Nat.{ℕ, _*_, _≤_, _<_}
-use mathlib.Core.Bool.{Bool, true, false, _&&_}
+use mathlib.Core.Bool.{Bool, true, false, cond, _&&_}
 use mathlib.Core.List.{List, [], _∷_, _++_}
 use mathlib.Core.Logic.{_↔_, _⊎_}
 use mathlib.Core.Path.{_≡_}
@@ -11,7 +11,7 @@ use lib.Signed.{leZ, ltZ, _≤ℤ_}
 use Rattle.laws.specs.Lists.{every, total}
 use Rattle.settings.specs.declared.Settings.{Settings}
 use Rattle.settings.specs.Settings.{inRange}
-use Rattle.settings.specs.Covered.{ceiling}
+use Rattle.settings.specs.Covered.{ceiling, isCovered}
 use Rattle.checks.specs.declared.Answer.{Answer}
 use Rattle.checks.specs.declared.Answer.the-variants.{Taken, Refused}
 use Rattle.checks.specs.Checks.{byAnswer}
@@ -25,12 +25,12 @@ use Rattle.layout.specs.Frame.{frameOf}
 use Rattle.meaning.specs.Meaning.{readWord}
 use Rattle.words.specs.Laws.{Between}
 use Rattle.board.specs.declared.Board.{Board}
-use Rattle.control.specs.declared.Coverage.the-variants.{Covered}
+use Rattle.control.specs.declared.Coverage.the-variants.{Covered, Uncovered}
 use Rattle.board.specs.Board.{sound}
 use Rattle.board.specs.Open.{openOf}
 use Rattle.feed.specs.Feed.{fedSums}
 use Rattle.read_out.specs.ReadOut.{readOutOf, readOutWords}
-use Rattle.control.specs.Covered.{coverageOf}
+use Rattle.control.specs.Covered.{orRefused, coverageOf}
 use Rattle.history.specs.Calls.{Call, update, start, feed, readOut, drop, covered, Ledger, fresh, viewOf, refusal, next, outcomeOf, anySums, Moment, moments}
 use Rattle.history.specs.Readings.{area, words, pixels, exactSums, FirstOver, NeverOver, frameFrom}
 
@@ -51,26 +51,31 @@ Always P = (w h : ℕ) (binned : Bool) → openOf w h binned .answer ≡ Taken �
 
 -- ---- demand 1, at one call
 
--- what the program writes into the buffers, in the ledger's terms; a refused call leaves them as they were
-abbrev pub Buffers : Ledger → Board → Call → Type 0
-Buffers ℓ b (feed readings sums) =
+-- what the program gives beside its answer, in the ledger's terms: what it writes into the buffers, which a refused call leaves as they were, and what Covered says
+abbrev pub Gives : Ledger → Board → Call → Type 0
+Gives ℓ b (feed readings sums) =
     fedSums b readings sums
     ≡ byAnswer (refusal ℓ (feed readings sums)) (sumsAfter (ℓ .inForce) (length (ℓ .readings)) readings sums) sums
-Buffers ℓ b (readOut sums output) =
+Gives ℓ b (readOut sums output) =
     readOutWords b sums output
     ≡ byAnswer (refusal ℓ (readOut sums output)) (frameOf (ℓ .width) (ℓ .binned) (ℓ .inForce .truncation) sums) output
-Buffers ℓ b (update bytes) = Unit {0}
-Buffers ℓ b start = Unit {0}
-Buffers ℓ b drop = Unit {0}
-Buffers ℓ b covered = Unit {0}
+Gives ℓ b (update bytes) = Unit {0}
+Gives ℓ b start = Unit {0}
+Gives ℓ b drop = Unit {0}
+Gives ℓ b covered = coverageOf b ≡ orRefused (refusal ℓ covered) (cond (isCovered (ℓ .inForce)) Covered Uncovered)
 
 -- the board that the call gets is what the ledger says; the program's answer is, number and place, what the ledger's checks say; after the call the board is again
--- what the ledger says, and so are the buffers
+-- what the ledger says, and so is all else that the call gives
 pub record Demand1 (m : Moment) : Type 0 where
   pub before : m .board ≡ viewOf (m .ledger)
   pub answer : outcomeOf (m .board) (m .call) .answer ≡ refusal (m .ledger) (m .call)
   pub board : outcomeOf (m .board) (m .call) .board ≡ viewOf (next (m .ledger) (m .call))
-  pub buffers : Buffers (m .ledger) (m .board) (m .call)
+  pub gives : Gives (m .ledger) (m .board) (m .call)
+
+-- the place of a refusal is 0, but for 13 and 14
+abbrev pub Placed : Answer → Type 0
+Placed Taken = Unit {0}
+Placed (Refused r) = (r .number ≡ 13) ⊎ ((r .number ≡ 14) ⊎ (r .place ≡ 0))
 
 -- ---- demand 2, at one call
 
@@ -145,12 +150,13 @@ abbrev pub Some : (Moment → Type 0) → List Moment → Type 0
 Some P [] = ⊥
 Some P (m ∷ ms) = P m ⊎ Some P ms
 
--- a taken Read out of an unbroken ramp, under the settings s, of the readings xs
+-- a taken Read out of an unbroken ramp, under the settings s, of the readings xs; Covered says of its board what the settings are
 pub record ReadsOut (s : Settings) (xs : List ℕ) (m : Moment) : Type 0 where
   pub sums : List ℤ
   pub output : List ℕ
   pub taken : TakenReadOut m sums output
   pub settings : m .ledger .inForce ≡ s
+  pub coverage : coverageOf (m .board) ≡ cond (isCovered s) Covered Uncovered
   pub readings : m .ledger .readings ≡ xs
 
 -- the readings that each Feed of a list brings
@@ -188,6 +194,8 @@ pub record Reached (w h : ℕ) (binned : Bool) (s : Settings) (cut : List (List 
 
 pub record Demands : Type 1 where
   pub demand-1 : Always Demand1
+  -- of every board, and every call on it
+  pub places : (b : Board) (c : Call) → Placed (outcomeOf b c .answer)
   pub demand-2 : Always Demand2
   pub demand-3 : Demand3
   pub honest : Always Honest

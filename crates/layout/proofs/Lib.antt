@@ -1,3 +1,4 @@
--- The laws of squares, and of the pixels of a word.
+-- The laws of squares, of the pixels of a word, and of the layout.
 pub mod Squares
 pub mod Grid
+pub mod Laws

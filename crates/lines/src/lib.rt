@@ -1,4 +1,4 @@
-// The lines of a frame, in a buffer that the caller lends.
+// The lines of a frame, in a buffer that the caller lends. What stands past them is left free.
 ghost use mathlib.Core.Path.{_≡_};
 ghost use mathlib.Core.List.{_++_};
 ghost use Prim.Native.Nat.{_+_, _*_, _≤_, _<_};

@@ -17,7 +17,7 @@ pub record MeaningLaws : Type 0 where
   pub saturated : (r n : ℕ) → truncationInRange r ≡ true → 1 ≤ n → n ≤ 9 → readWord r (32752 + n) ≡ Saturated n
   -- 32,767 reads as negative
   pub negative : (r : ℕ) → truncationInRange r ≡ true → readWord r 32767 ≡ Negative
-  -- 32,753 and 32,761 mean saturated at 1 and 9, 32,767 negative; 32,752, 32,762, 32,766, 32,768 and 65,535 mean nothing
+  -- 32,753 and 32,761 mean saturated at 1 and 9, 32,767 negative; 32,752, 32,762, 32,766, 32,768 and 65,535 are unassigned
   pub known-flags : (meaning 2 32753 ≡ Saturated 1)
       × (meaning 2 32761 ≡ Saturated 9)
       × (meaning 2 32767 ≡ Negative)

@@ -17,7 +17,7 @@ pub fn beyond(a: usize, b: usize) -> usize
     if a > b { a - b } else { 0 }
 }
 
-// The sum modulo 2^32, from −2^31 up. All three ends are one machine addition.
+// The sum modulo 2^32, from −2^31 up. All three branches are one machine addition.
 pub fn wrapping_add(a: i32, b: i32) -> i32
     ensures { λ r. ⌜ r ≡ wrapped (a +ℤ b) ⌝ }
 {

@@ -14,7 +14,7 @@ use Rattle.ramp.specs.Feed.{sumsAfter}
 use Rattle.ramp.specs.Exact.{readingOf, exactSum, entryAfter}
 
 pub record RampLaws : Type 0 where
-  -- some readings, and then some more
+  -- readings in two Feeds leave what they leave in one
   pub in-two : (s : Settings) (f : ℕ) (xs ys : List ℕ) (sums : List ℤ) → sumsAfter s f (xs ++ ys) sums ≡ sumsAfter s (f + length xs) ys (sumsAfter s f xs sums)
   -- a pixel that has had k samples of a ramp, and no more, holds the mark of its first sample over the threshold, or else its exact sum; whatever stood there before
   pub entry-is : (s : Settings) → inRange s ≡ true → (xs : List ℕ) (sums : List ℤ)

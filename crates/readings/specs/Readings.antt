@@ -7,5 +7,6 @@ use lib.Dec.{leb}
 abbrev pub maxReading : ℕ
 maxReading = 16383
 
+-- a reading is 0 to 16,383
 abbrev pub readingInRange : ℕ → Bool
 readingInRange x = leb x maxReading

@@ -27,13 +27,15 @@ use Rattle.feed.specs.Feed.{feedOf, fedSums}
 use Rattle.read_out.specs.ReadOut.{readOutOf, readOutWords}
 use Rattle.whole_frame.specs.Chain.{frameAnswer, frameWords}
 use Rattle.input.specs.Input.{pairs}
+use Rattle.text.specs.Text.{digitCount, decimal}
+use Rattle.text.proofs.Laws as TextLaws
 use Rattle.lines.specs.Lines.{lineText, linesText}
 use Rattle.job.specs.declared.Job.{Job}
 use Rattle.job.specs.Kept.{capacity}
 use Rattle.job.specs.Job.{jobAnswer, jobWords, columnsOf, truncationOf, Result}
 use Rattle.job.proofs.Laws as Jobs
 use Rattle.report.specs.Text.{header, textOf}
-use Rattle.report.specs.Laws.{ReportLaws}
+use Rattle.report.specs.Laws.{firstLine, secondLine, ReportLaws}
 use Rattle.report.proofs.Jobs.{text-is}
 
 -- a result of an input
@@ -77,9 +79,17 @@ truncation : truncationOf example ≡ 2
 unfolding example verdict sidesTaken openOf updateOf startOf sound inRange every anyOf stands fieldOf placeOf weightOf Update.updateOf withBits each
 truncation = refl
 
-known-text : textOf example 14 ≡ header ++ (lineText 0 0 2 32 ++ lineText 0 1 2 4127)
+first-line : lineText 0 0 2 32 ≡ firstLine
+unfolding decimal digitCount
+first-line = rw (TextLaws.laws .ordinary-text 2 32 refl (omega arith))
+
+second-line : lineText 0 1 2 4127 ≡ secondLine
+unfolding decimal digitCount
+second-line = rw (TextLaws.laws .ordinary-text 2 4127 refl (omega arith))
+
+known-text : textOf example 14 ≡ header ++ (firstLine ++ secondLine)
 unfolding example linesText textOf
-known-text = rw (taken, words, truncation)
+known-text = rw (taken, words, truncation, first-line, second-line)
 
 pub laws : ReportLaws
 unfolding example

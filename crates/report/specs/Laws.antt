@@ -3,13 +3,20 @@ use Prim.Native.Nat.{ℕ}
 use mathlib.Core.List.{List, [], _∷_, _++_}
 use mathlib.Core.Path.{_≡_}
 use lib.ListN.{length, take}
-use Rattle.lines.specs.Lines.{lineText}
 use Rattle.job.specs.Kept.{capacity}
 use Rattle.report.specs.Text.{header, textOf}
+
+-- `0 0 32 128..132`, and the end of the line
+abbrev pub firstLine : List ℕ
+firstLine = 48 ∷ 32 ∷ 48 ∷ 32 ∷ 51 ∷ 50 ∷ 32 ∷ 49 ∷ 50 ∷ 56 ∷ 46 ∷ 46 ∷ 49 ∷ 51 ∷ 50 ∷ 10 ∷ []
+
+-- `0 1 4127 16508..16512`, and the end of the line
+abbrev pub secondLine : List ℕ
+secondLine = 48 ∷ 32 ∷ 49 ∷ 32 ∷ 52 ∷ 49 ∷ 50 ∷ 55 ∷ 32 ∷ 49 ∷ 54 ∷ 53 ∷ 48 ∷ 56 ∷ 46 ∷ 46 ∷ 49 ∷ 54 ∷ 53 ∷ 49 ∷ 50 ∷ 10 ∷ []
 
 pub record ReportLaws : Type 0 where
   -- the text of the first bytes of an input and its whole length is the text of the input, however long it is
   pub prefix : (bytes : List ℕ) → textOf (take capacity bytes) (length bytes) ≡ textOf bytes (length bytes)
-  -- the input 02 00 01 00 00 04 01 08 01 01 00 00 FF 3F (hexadecimal): the lines of 32 at row 0, column 0, and of 4,127 at row 0, column 1
+  -- the whole output for the input 02 00 01 00 00 04 01 08 01 01 00 00 FF 3F (hexadecimal)
   pub known-text : textOf (0x02 ∷ 0x00 ∷ 0x01 ∷ 0x00 ∷ 0x00 ∷ 0x04 ∷ 0x01 ∷ 0x08 ∷ 0x01 ∷ 0x01 ∷ 0x00 ∷ 0x00 ∷ 0xFF ∷ 0x3F ∷ []) 14
-      ≡ header ++ (lineText 0 0 2 32 ++ lineText 0 1 2 4127)
+      ≡ header ++ (firstLine ++ secondLine)

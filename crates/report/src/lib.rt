@@ -1,4 +1,4 @@
-// The text of a job, in a buffer that the caller lends.
+// The text of a job, in a buffer that the caller lends. What stands past the end of the text is left free: nobody prints it.
 ghost use mathlib.Core.Path.{_≡_};
 ghost use Prim.Native.Nat.{_≤_};
 ghost use lib.ListN.{length, take};

@@ -6,7 +6,7 @@ use lib.IntN.{ℤ, pos, negsuc}
 use Rattle.settings.specs.declared.Settings.{Settings}
 use Rattle.settings.specs.Settings.{weightAt}
 
--- what every sum starts from
+-- 128, which every sum starts from
 abbrev pub pedestal : ℕ
 pedestal = 128
 
@@ -15,7 +15,7 @@ abbrev pub positivePart : ℤ → ℕ
 positivePart (pos w) = w
 positivePart (negsuc w) = 0
 
--- the positive weights of the first n samples, added up
+-- P, for n = N: the positive weights among the first n, added up
 unfoldable pub positives : Settings → ℕ → ℕ
 positives s zero = 0
 positives s (suc n) = positives s n + positivePart (weightAt s (suc n))

@@ -11,6 +11,6 @@ sideTaken binned n = leb 1 n && leb n 1024 && not (binned && eqb (n % 2) 1)
 unfoldable pub sidesTaken : ℕ → ℕ → Bool → Bool
 sidesTaken width height binned = sideTaken binned width && sideTaken binned height
 
--- a number of a board whose sides Open takes, and 0 for any other
+-- n for sides that Open takes, and 0 for any other
 abbrev pub ofSides : ℕ → ℕ → Bool → ℕ → ℕ
 ofSides width height binned n = cond (sidesTaken width height binned) n 0

@@ -30,7 +30,7 @@ fn magnitude(weight: i32) -> u8
     }
 }
 
-// A reading as a signed number of 16 bits, which are cheaper to multiply and to compare. It is far below 32,768.
+// A reading as a signed number of 16 bits, which are cheaper to multiply and to compare. It is below 32,768.
 fn signed(reading: u16) -> i16
     requires { ⌜ readingInRange reading ≡ true ⌝ }
     ensures { λ r. ⌜ r ≡ pos reading ⌝ }
@@ -48,7 +48,7 @@ fn product(weight: i32, reading: u16) -> i32
     if weight < 0 { -size } else { size }
 }
 
-// Whether a reading is above the threshold, which is far below 32,768 too.
+// Whether a reading is above the threshold, which is below 32,768 too.
 fn is_above(reading: u16, threshold: u16) -> bool
     requires { ⌜ readingInRange reading ≡ true ⌝ }
     requires { ⌜ thresholdInRange threshold ≡ true ⌝ }

@@ -1,4 +1,5 @@
 // Text in a buffer that the caller lends, from a place on: bytes, numbers, refusals, and what a word means. Each function answers the place after what it put.
+// What stands from there on is left free.
 ghost use mathlib.Core.Path.{_≡_};
 ghost use mathlib.Core.List.{_++_};
 ghost use Prim.Native.Nat.{_+_, _≤_};

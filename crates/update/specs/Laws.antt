@@ -53,8 +53,8 @@ pub record UpdateLaws : Type 0 where
   pub empty-map : (s : Settings) → updateOf s (0 ∷ 0 ∷ []) ≡ taken s
   -- the record 00 06 1F 33 03 (hexadecimal): threshold 13,087 and r = 3
   pub known-record : (s : Settings) → updateOf s (0x00 ∷ 0x06 ∷ 0x1F ∷ 0x33 ∷ 0x03 ∷ []) ≡ taken (withTruncation 3 (withThreshold 13087 s))
-  -- 2 to 4, each by a record that is just past what is taken (hexadecimal): no byte, one byte; map bits 12 and 15; a byte too few, one too many. A bad field gives
-  -- its own refusal
+  -- 2 to 4, each by a record that is just past what is taken (hexadecimal): no byte, one byte; map bits 12 and 15; a byte too few, one too many. A
+  -- threshold of 16,384: 6. Weight byte 32 and then N = 0: 5
   pub known-refusals : (s : Settings)
       → (updateOf s [] ≡ refusedWith 2 s)
       × (updateOf s (0x00 ∷ []) ≡ refusedWith 2 s)
@@ -63,6 +63,7 @@ pub record UpdateLaws : Type 0 where
       × (updateOf s (0x00 ∷ 0x02 ∷ 0x00 ∷ []) ≡ refusedWith 4 s)
       × (updateOf s (0x00 ∷ 0x00 ∷ 0x00 ∷ []) ≡ refusedWith 4 s)
       × (updateOf s (0x00 ∷ 0x02 ∷ 0x00 ∷ 0x40 ∷ []) ≡ refusedWith 6 s)
-  -- all settings in range come of one record of bytes on any others
+      × (updateOf s (0x01 ∷ 0x08 ∷ 0x20 ∷ 0x00 ∷ []) ≡ refusedWith 5 s)
+  -- from any settings one record of bytes leads to any settings in range
   pub reachable : (s t : Settings) → inRange s ≡ true → length (t .weights) ≡ 9
       → (bytes : List ℕ) × (every (λ b. ltb b 256) bytes ≡ true) × (updateOf t bytes ≡ taken s)

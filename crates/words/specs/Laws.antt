@@ -17,8 +17,7 @@ use Rattle.meaning.specs.declared.WordRead.the-variants.{Ordinary, Saturated, N
 use Rattle.words.specs.Word.{smallestMark, isNegative, wordOf}
 use Rattle.meaning.specs.Meaning.{readWord}
 
--- a word that reads as ordinary: its two limits are 64-bit floats, exactly the whole numbers lo and hi, and the sum of its pixels lies from lo up to but not
--- including hi, counted once for each pixel
+-- a word that reads as ordinary: its two limits are 64-bit floats, exactly the whole numbers lo and hi, and pixels × lo ≤ sum < pixels × hi
 pub record Between (pixels : ℕ) (sum : ℤ) (reads : WordRead) : Type 0 where
   pub lower : Float
   pub upper : Float

@@ -24,7 +24,7 @@ smallestMark (e ∷ es) = smaller (sampleOf e) (smallestMark es)
 unfoldable pub isNegative : List ℤ → Bool
 isNegative sums = ltZ (total sums) (pos 0)
 
--- a sum S that isn't negative is divided by d, rounded down, and cut to 15 bits
+-- a sum S that isn't negative is divided by d, rounded down; then its remainder by 32,768
 abbrev pub cutBy : ℕ → ℤ → ℕ
 cutBy d S = natAbs S / d % 32768
 
