@@ -10,7 +10,7 @@ use Rattle.laws.specs.Lists.{every}
 use Rattle.checks.specs.declared.Answer.the-variants.{Taken}
 use Rattle.checks.specs.Checks.{verdict}
 use Rattle.entries.specs.Possible.{possible}
-use Rattle.ramp.specs.Feed.{feedAll}
+use Rattle.sums.specs.Feed.{feedAll}
 use Rattle.written.proofs.Intervals.{written-none}
 use Rattle.board.specs.declared.Board.{Board}
 use Rattle.board.specs.Board.{sound}

@@ -10,7 +10,7 @@ use Rattle.checks.specs.Search.{firstPlace}
 use Rattle.checks.specs.Checks.{when, found, verdict, byAnswer}
 use Rattle.readings.specs.Readings.{readingInRange}
 use Rattle.entries.specs.Possible.{possible}
-use Rattle.ramp.specs.Feed.{sumsAfter}
+use Rattle.sums.specs.Feed.{sumsAfter}
 use Rattle.written.specs.Written.{notPossibleAt}
 use Rattle.board.specs.declared.Board.{Board}
 use Rattle.board.specs.declared.Outcome.{Outcome}

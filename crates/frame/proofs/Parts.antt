@@ -17,10 +17,10 @@ use Rattle.checks.specs.Checks.{first, verdict}
 use Rattle.checks.proofs.Laws.{both-taken}
 use Rattle.readings.specs.Readings.{readingInRange}
 use Rattle.step.specs.Step.{step}
-use Rattle.ramp.specs.Feed.{feedAll}
-use Rattle.ramp.proofs.Feeding.{feed-length, feed-append}
-use Rattle.ramp.proofs.Agrees.{agrees-none}
-use Rattle.ramp.proofs.Honest.{never-damaged}
+use Rattle.sums.specs.Feed.{feedAll}
+use Rattle.sums.proofs.Feeding.{feed-length, feed-append}
+use Rattle.sums.proofs.Agrees.{agrees-none}
+use Rattle.sums.proofs.Honest.{never-damaged}
 use Rattle.board.specs.declared.Board.{Board}
 use Rattle.board.specs.Board.{wanted}
 use Rattle.feed.specs.Feed.{feedChecks, feedOf, fedSums}

@@ -23,9 +23,9 @@ use Rattle.settings.specs.Settings.{truncationInRange}
 use Rattle.settings.specs.Covered.{isCovered, ceiling}
 use Rattle.settings.proofs.Parts.{InRange}
 use Rattle.step.specs.Step.{overIt}
-use Rattle.ramp.specs.Exact.{exactSum, entryAfter}
-use Rattle.ramp.proofs.Bounds.{cover-holds}
-use Rattle.ramp.proofs.Pixel.{entry-sample}
+use Rattle.sums.specs.Exact.{exactSum, entryAfter}
+use Rattle.sums.proofs.Bounds.{cover-holds}
+use Rattle.sums.proofs.Pixel.{entry-sample}
 use Rattle.meaning.specs.declared.WordRead.{WordRead}
 use Rattle.meaning.specs.declared.WordRead.the-variants.{Saturated, Negative}
 use Rattle.words.specs.Word.{smallestMark, isNegative, wordBy, wordOf}

@@ -1,5 +1,5 @@
 -- Demand 3's last sentence: Covered says "covered" exactly where no readings break the ceiling.
-use Rattle.ramp.proofs.Laws.{laws}
+use Rattle.sums.proofs.Laws.{laws}
 use Rattle.control.proofs.Says.{covered-is}
 use Rattle.history.specs.Demands.{CoveredExactly}
 

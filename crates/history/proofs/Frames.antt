@@ -10,8 +10,8 @@ use lib.ListN.{length, getD}
 use Rattle.laws.proofs.Each.{each-length, each-same, each-at}
 use Rattle.laws.proofs.Parts.{map-same}
 use Rattle.checks.specs.declared.Answer.the-variants.{Taken}
-use Rattle.ramp.specs.Exact.{entryAfter}
-use Rattle.ramp.proofs.Agrees.{agrees-full}
+use Rattle.sums.specs.Exact.{entryAfter}
+use Rattle.sums.proofs.Agrees.{agrees-full}
 use Rattle.words.specs.Word.{wordOf}
 use Rattle.layout.specs.Frame.{wordAt, frameOf}
 use Rattle.layout.proofs.Grid.{pixels-on, pixels-some}

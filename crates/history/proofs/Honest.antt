@@ -20,8 +20,8 @@ use Rattle.checks.proofs.Search.{found-every}
 use Rattle.readings.specs.Readings.{readingInRange}
 use Rattle.entries.specs.Possible.{possible}
 use Rattle.written.specs.Written.{notPossibleAt}
-use Rattle.ramp.proofs.Agrees.{Agrees}
-use Rattle.ramp.proofs.Honest.{never-damaged, all-possible}
+use Rattle.sums.proofs.Agrees.{Agrees}
+use Rattle.sums.proofs.Honest.{never-damaged, all-possible}
 use Rattle.layout.specs.Frame.{wordCount}
 use Rattle.board.specs.declared.Board.{Board}
 use Rattle.board.specs.Board as Board

@@ -17,7 +17,7 @@ use Rattle.checks.specs.declared.Answer.{Answer}
 use Rattle.checks.specs.declared.Answer.the-variants.{Taken, Refused}
 use Rattle.checks.specs.Checks.{byAnswer}
 use Rattle.readings.specs.Readings.{readingInRange}
-use Rattle.ramp.proofs.Agrees.{Agrees, agrees-none, agrees-all}
+use Rattle.sums.proofs.Agrees.{Agrees, agrees-none, agrees-all}
 use Rattle.board.specs.Board.{sound}
 use Rattle.board.specs.Open.{openOf}
 use Rattle.feed.specs.Feed.{fedSums}

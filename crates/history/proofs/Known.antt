@@ -5,7 +5,7 @@ use Rattle.laws.specs.Numbers.{sumTo}
 use Rattle.settings.specs.Covered.{positives, isCovered}
 use Rattle.entries.specs.Mark.{sampleOf}
 use Rattle.step.specs.Step.{step}
-use Rattle.ramp.specs.Feed.{feedOne, feedAll}
+use Rattle.sums.specs.Feed.{feedOne, feedAll}
 use Rattle.words.specs.Word.{smallestMark, isNegative}
 use Rattle.meaning.specs.Meaning.{meaning, readWord}
 use Rattle.history.specs.Known.{AllKnown}

@@ -21,8 +21,8 @@ use Rattle.readings.specs.Readings.{readingInRange}
 use Rattle.entries.specs.Possible.{possible}
 use Rattle.entries.proofs.Range.{possible-in-range, range}
 use Rattle.step.specs.Step.{step}
-use Rattle.ramp.proofs.Feeding.{feed-length, feed-past}
-use Rattle.ramp.proofs.Honest.{all-pass}
+use Rattle.sums.proofs.Feeding.{feed-length, feed-past}
+use Rattle.sums.proofs.Honest.{all-pass}
 use Rattle.board.specs.Board.{wanted}
 use Rattle.feed.specs.Feed.{fedSums}
 use Rattle.board.proofs.Checked.{RampTaken}

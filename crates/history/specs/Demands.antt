@@ -16,8 +16,8 @@ use Rattle.checks.specs.declared.Answer.{Answer}
 use Rattle.checks.specs.declared.Answer.the-variants.{Taken, Refused}
 use Rattle.checks.specs.Checks.{byAnswer}
 use Rattle.readings.specs.Readings.{readingInRange}
-use Rattle.ramp.specs.Feed.{sumsAfter}
-use Rattle.ramp.specs.Exact.{exactSum}
+use Rattle.sums.specs.Feed.{sumsAfter}
+use Rattle.sums.specs.Exact.{exactSum}
 use Rattle.meaning.specs.declared.WordRead.{WordRead}
 use Rattle.meaning.specs.declared.WordRead.the-variants.{Saturated, Negative}
 use Rattle.words.specs.Word.{isNegative}

@@ -9,8 +9,8 @@ use Rattle.settings.specs.declared.Settings.{Settings}
 use Rattle.settings.specs.Settings.{defaults, withWeights, withThreshold, withTruncation, withSamples}
 use Rattle.settings.specs.Covered.{isCovered}
 use Rattle.entries.specs.Mark.{mark}
-use Rattle.ramp.specs.Feed.{sumsAfter}
-use Rattle.ramp.specs.Exact.{readingOf, exactSum}
+use Rattle.sums.specs.Feed.{sumsAfter}
+use Rattle.sums.specs.Exact.{readingOf, exactSum}
 use Rattle.meaning.specs.declared.WordRead.{WordRead}
 use Rattle.meaning.specs.declared.WordRead.the-variants.{Ordinary, Saturated, Negative}
 use Rattle.words.specs.Word.{wordOf}

@@ -1,9 +1,2 @@
--- The laws of a ramp.
-pub mod Feeding
-pub mod Ready
+-- One turn of Feed's loop.
 pub mod Turn
-pub mod Bounds
-pub mod Pixel
-pub mod Agrees
-pub mod Honest
-pub mod Laws

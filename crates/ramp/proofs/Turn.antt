@@ -17,13 +17,13 @@ use Rattle.entries.specs.Possible.{possible}
 use Rattle.entries.specs.Range.{entryInRange}
 use Rattle.entries.proofs.Range.{possible-in-range}
 use Rattle.step.specs.Step.{step}
-use Rattle.ramp.specs.Feed.{feedAll}
+use Rattle.sums.specs.Feed.{feedAll}
 use Rattle.ramp.specs.Requires.{Feedable}
 use Rattle.step.proofs.Steps.{possible-step}
 use Rattle.written.proofs.Places.{place}
-use Rattle.ramp.proofs.Feeding.{feed-length, feed-append, feed-part}
+use Rattle.sums.proofs.Feeding.{feed-length, feed-append, feed-part}
 use Rattle.written.proofs.Intervals.{Ready}
-use Rattle.ramp.proofs.Ready.{ready-all}
+use Rattle.sums.proofs.Ready.{ready-all}
 use Rattle.written.proofs.Intervals.{written-ready}
 
 module _ (s : Settings) (f : ℕ) (xs : List ℕ) (ss : List ℤ) (h : Feedable s f xs ss) (i k : ℕ) (hk : i + k ≤ length xs) (hp : (f + i) % length ss + k ≤ length ss) where

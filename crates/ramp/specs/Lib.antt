@@ -1,5 +1,2 @@
--- The sum of a ramp: Feed as the fold of a reading's step, and what a pixel's readings come to.
-pub mod Feed
-pub mod Exact
+-- What the passes of Feed require.
 pub mod Requires
-pub mod Laws

@@ -9,7 +9,7 @@ ghost use Rattle.entries.specs.Mark.{mark};
 ghost use Rattle.readings.specs.Readings.{readingInRange};
 ghost use Rattle.entries.specs.Range.{entryInRange};
 ghost use Rattle.step.specs.Step.{isAbove, base, stepFrom, step};
-ghost use Rattle.ramp.specs.Feed.{sumsAfter};
+ghost use Rattle.sums.specs.Feed.{sumsAfter};
 ghost use Rattle.ramp.specs.Requires.{Feedable};
 use numbers::least;
 use settings::Settings;

@@ -16,7 +16,7 @@ use Rattle.fields.specs.Fields.{withBits}
 use Rattle.entries.specs.Mark.{sampleOf}
 use Rattle.entries.specs.Possible.{possibleAfter}
 use Rattle.step.specs.Step.{step}
-use Rattle.ramp.specs.Feed.{feedOne, feedAll}
+use Rattle.sums.specs.Feed.{feedOne, feedAll}
 use Rattle.words.specs.Word.{smallestMark, isNegative}
 use Rattle.layout.specs.Frame.{pixelsOf, wordAt, frameOf}
 use Rattle.board.specs.Board.{sidesTaken, sound}

@@ -19,11 +19,11 @@ use Rattle.checks.proofs.Laws.{first-taken, verdict-append, both-taken}
 use Rattle.checks.proofs.Search.{found-every}
 use Rattle.entries.specs.Possible.{possible}
 use Rattle.step.specs.Step.{step}
-use Rattle.ramp.specs.Feed.{sumsAfter}
+use Rattle.sums.specs.Feed.{sumsAfter}
 use Rattle.ramp.specs.Requires.{Feedable}
-use Rattle.ramp.proofs.Feeding.{feed-length}
-use Rattle.ramp.proofs.Agrees.{agrees-none, agrees-all}
-use Rattle.ramp.proofs.Honest.{all-possible}
+use Rattle.sums.proofs.Feeding.{feed-length}
+use Rattle.sums.proofs.Agrees.{agrees-none, agrees-all}
+use Rattle.sums.proofs.Honest.{all-possible}
 use Rattle.layout.specs.Frame.{wordCount, frameOf}
 use Rattle.layout.specs.Requires.{Readable}
 use Rattle.board.specs.declared.Board.{Board}

@@ -13,7 +13,7 @@ use Rattle.laws.proofs.Every.{every-take, every-drop}
 use Rattle.laws.proofs.Parts.{part-length}
 use Rattle.readings.specs.Readings.{readingInRange}
 use Rattle.step.specs.Step.{step}
-use Rattle.ramp.specs.Feed.{feedAll}
+use Rattle.sums.specs.Feed.{feedAll}
 use Rattle.written.proofs.Places.{place, few}
 use Rattle.ramp.proofs.Turn.{turn-in-range, turn-next}
 use Rattle.ramp.proofs.feed.Statement.{statement}

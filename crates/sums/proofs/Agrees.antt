@@ -23,11 +23,11 @@ use Rattle.readings.specs.Readings.{readingInRange}
 use Rattle.entries.specs.Possible.{possible}
 use Rattle.step.specs.Step.{step}
 use Rattle.written.specs.Written.{samplesWritten}
-use Rattle.ramp.specs.Feed.{feedOne, feedAll}
-use Rattle.ramp.specs.Exact.{readingOf, entryAfter}
+use Rattle.sums.specs.Feed.{feedOne, feedAll}
+use Rattle.sums.specs.Exact.{readingOf, entryAfter}
 use Rattle.written.proofs.Places.{same-sample, place, next}
-use Rattle.ramp.proofs.Feeding.{one-length}
-use Rattle.ramp.proofs.Pixel.{entry-step, entry-same, entry-possible}
+use Rattle.sums.proofs.Feeding.{one-length}
+use Rattle.sums.proofs.Pixel.{entry-step, entry-same, entry-possible}
 
 -- Pixel p has had sample i + 1, and no later one: its reading number i × m + p is among those fed, and number (i + 1) × m + p is not.
 pub record Agrees (s : Settings) (m : ℕ) (readings : List ℕ) (sums : List ℤ) : Type 0 where

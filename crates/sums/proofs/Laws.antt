@@ -9,10 +9,10 @@ use Rattle.laws.proofs.Ints.{signed}
 use Rattle.settings.specs.Covered.{isCovered}
 use Rattle.settings.proofs.Parts.{in-range-parts}
 use Rattle.step.specs.Step.{step}
-use Rattle.ramp.specs.Laws.{RampLaws}
-use Rattle.ramp.proofs.Feeding.{feed-length, feed-append}
-use Rattle.ramp.proofs.Bounds.{cover-holds, cover-breaks, at-most, worst, worst-le}
-use Rattle.ramp.proofs.Agrees.{agrees-none, agrees-all}
+use Rattle.sums.specs.Laws.{RampLaws}
+use Rattle.sums.proofs.Feeding.{feed-length, feed-append}
+use Rattle.sums.proofs.Bounds.{cover-holds, cover-breaks, at-most, worst, worst-le}
+use Rattle.sums.proofs.Agrees.{agrees-none, agrees-all}
 
 pub laws : RampLaws
 laws = record {

@@ -13,7 +13,7 @@ use lib.ListN.{length, getD, take, drop, set, length-set, take-append-drop}
 use lib.Seq.{take-suc-set, drop-set-lt, drop-cons, getD-set-other}
 use Rattle.laws.specs.Lists.{over}
 use Rattle.laws.proofs.Over.{over-part}
-use Rattle.ramp.specs.Feed.{feedOne, feedAll}
+use Rattle.sums.specs.Feed.{feedOne, feedAll}
 
 module _ {E : Type 0} (absent : E) (step : ℕ → E → ℕ → E) (m : ℕ) where
   abbrev one : ℕ → ℕ → List E → List E

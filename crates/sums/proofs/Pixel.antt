@@ -20,9 +20,9 @@ use Rattle.readings.specs.Readings.{readingInRange}
 use Rattle.entries.specs.Possible.{possible}
 use Rattle.entries.proofs.Marks.{is-marked, sample-is, sample-none}
 use Rattle.step.specs.Step.{overIt, stepFrom, step}
-use Rattle.ramp.specs.Exact.{exactSum, firstOver, markedBy, entryAfter}
+use Rattle.sums.specs.Exact.{exactSum, firstOver, markedBy, entryAfter}
 use Rattle.step.proofs.Steps.{possible-step}
-use Rattle.ramp.proofs.Bounds.{part, below-marks}
+use Rattle.sums.proofs.Bounds.{part, below-marks}
 
 module _ (s : Settings) (r : InRange s) (x : ℕ → ℕ) where
   abbrev over : ℕ → Bool

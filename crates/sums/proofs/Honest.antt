@@ -24,7 +24,7 @@ use Rattle.entries.specs.Possible.{possible}
 use Rattle.written.specs.Written.{samplesWritten}
 use Rattle.written.specs.Written.{notPossibleAt}
 use Rattle.written.proofs.Places.{same-sample, next}
-use Rattle.ramp.proofs.Agrees.{Agrees, undamaged}
+use Rattle.sums.proofs.Agrees.{Agrees, undamaged}
 
 -- where the first of three holds only if the third does
 none-fails : (a b c : Bool) → (a ≡ true → c ≡ true) → a && b && not c ≡ false

@@ -14,10 +14,10 @@ use lib.Seq.{getD-set-same, getD-set-other}
 use Rattle.laws.specs.Lists.{every}
 use Rattle.laws.proofs.Tests.{and-true}
 use Rattle.readings.specs.Readings.{readingInRange}
-use Rattle.ramp.specs.Feed.{feedOne, feedAll}
+use Rattle.sums.specs.Feed.{feedOne, feedAll}
 use Rattle.written.proofs.Intervals.{Ready}
 use Rattle.written.proofs.Places.{same-sample, place, few}
-use Rattle.ramp.proofs.Feeding.{one-length}
+use Rattle.sums.proofs.Feeding.{one-length}
 
 module _ {E : Type 0} (absent : E) (step : ℕ → E → ℕ → E) (test : ℕ → E → Bool) (m : ℕ) (some : 0 < m)
     (keeps : (k : ℕ) (e : E) (x : ℕ) → k ≤ 8 → readingInRange x ≡ true → (0 < k → test k e ≡ true) → test (suc k) (step (suc k) e x) ≡ true) where

@@ -22,7 +22,7 @@ use Rattle.settings.specs.Settings.{maxThreshold, weightInRange, weightAt}
 use Rattle.settings.specs.Covered.{positivePart, positives, reach, ceiling, isCovered}
 use Rattle.settings.proofs.Parts.{InRange}
 use Rattle.step.specs.Step.{overIt}
-use Rattle.ramp.specs.Exact.{exactSum}
+use Rattle.sums.specs.Exact.{exactSum}
 use Rattle.step.proofs.Steps.{weight-in-range}
 
 -- weight n × reading n

@@ -10,8 +10,8 @@ use lib.Signed.{_≤ℤ_}
 use Rattle.settings.specs.declared.Settings.{Settings}
 use Rattle.settings.specs.Settings.{inRange}
 use Rattle.settings.specs.Covered.{ceiling, isCovered}
-use Rattle.ramp.specs.Feed.{sumsAfter}
-use Rattle.ramp.specs.Exact.{readingOf, exactSum, entryAfter}
+use Rattle.sums.specs.Feed.{sumsAfter}
+use Rattle.sums.specs.Exact.{readingOf, exactSum, entryAfter}
 
 pub record RampLaws : Type 0 where
   -- readings in two Feeds leave what they leave in one

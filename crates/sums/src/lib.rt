@@ -1,0 +1,1 @@
+// No code: what readings do to the sums, the exact sums, and their laws.
