@@ -5,12 +5,12 @@ use crate::print::newline;
 use crate::print::next;
 use crate::print::text;
 use checks::Found;
+use items::COUNT;
+use items::MOST;
+use items::Numbers;
 use libc::STDIN_FILENO;
 use script::first_malformed;
 use script::line_end;
-use script::numbers::COUNT;
-use script::numbers::MOST;
-use script::numbers::Numbers;
 use script::said;
 
 mod player;

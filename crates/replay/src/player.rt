@@ -4,16 +4,16 @@ use crate::show;
 use board::Board;
 use board::Outcome;
 use checks::Answer;
+use commands::Command;
 use control::covered;
 use control::start;
 use feed::feed;
+use items::MOST;
+use items::Numbers;
+use items::bytes_of;
+use items::readings_of;
 use meaning::read_word;
 use read_out::read_out;
-use script::commands::Command;
-use script::numbers::MOST;
-use script::numbers::Numbers;
-use script::numbers::bytes_of;
-use script::numbers::readings_of;
 
 // A buffer of sums: its first entries are the sums.
 pub(crate) type Sums = [i32; MOST];

@@ -1,4 +1,2 @@
--- The lines of a script, the ranges of its numbers, and the items of its lists.
-pub mod Items
+-- The lines of a script.
 pub mod Lines
-pub mod Ranges

@@ -3,17 +3,16 @@ ghost use mathlib.Core.Path.{_≡_};
 ghost use Prim.Native.Nat.{_≤_, max};
 ghost use lib.ListN.{length, take};
 ghost use Rattle.script.specs.Lines.{lineEnd, Numbered};
-ghost use Rattle.script.specs.Ranges.{InRange};
-use crate::commands::Command;
-use crate::commands::named;
-use crate::numbers::Numbers;
+ghost use Rattle.commands.specs.Ranges.{InRange};
 use crate::numbers::numbers;
 use bytes::scan::find;
 use check::same;
 use checks::Found;
+use commands::Command;
+use commands::named;
+use items::Numbers;
 
-pub mod commands;
-pub mod numbers;
+mod numbers;
 
 // Where the word of a line ends.
 fn word_end(line: &[u8]) -> usize

@@ -1,4 +1,4 @@
--- `script::numbers::readings_of` meets its contract.
+-- `items::readings_of` meets its contract.
 use Prim.Native.Nat.{_-_}
 use mathlib.Core.Path.{refl}
 use native.Mathlib.Omega.{arith}
@@ -7,10 +7,10 @@ use lib.ListN.{getD}
 use mir.Syntax.{w64}
 use Rattle.laws.specs.Lists.{each}
 use Rattle.laws.proofs.Ints.{back}
-use Rattle.script.specs.Items.{readingItem}
-use Rattle.script.proofs.Filled.{Filled, filled-more, filled-all}
-use Rattle.script.proofs.numbers.readings_of.Statement.{statement}
-use Rattle.script.proofs.numbers.readings_of.Tie as tie
+use Rattle.items.specs.Items.{readingItem}
+use Rattle.items.proofs.Filled.{Filled, filled-more, filled-all}
+use Rattle.items.proofs.readings_of.Statement.{statement}
+use Rattle.items.proofs.readings_of.Tie as tie
 
 abbrev Inv-loop : tie.InvT-loop
 Inv-loop list same readings₀ i₀ readings i = Filled (readingItem same list) readings i

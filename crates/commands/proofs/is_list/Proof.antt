@@ -1,8 +1,8 @@
--- `script::commands::is_list` is safe and ends.
+-- `commands::is_list` is safe and ends.
 use Prim.Native.Nat.{_-_, _≤_}
 use native.Mathlib.Omega.{arith}
-use Rattle.script.proofs.commands.is_list.Statement.{statement}
-use Rattle.script.proofs.commands.is_list.Tie as tie
+use Rattle.commands.proofs.is_list.Statement.{statement}
+use Rattle.commands.proofs.is_list.Tie as tie
 
 abbrev Inv-loop : tie.InvT-loop
 Inv-loop list count highest i₀ i = i ≤ count

@@ -1,8 +1,8 @@
--- `script::numbers::place` meets its contract.
+-- `items::place` meets its contract.
 use native.Mathlib.Omega.{arith}
 use borrow.Author.Needs.{needs}
-use Rattle.script.proofs.numbers.place.Statement.{statement}
-use Rattle.script.proofs.numbers.place.Tie as tie
+use Rattle.items.proofs.place.Statement.{statement}
+use Rattle.items.proofs.place.Tie as tie
 
 returns-2 : tie.Need-returns-2
 returns-2 c = (rw (c .if1 .left), omega arith)

@@ -1,4 +1,4 @@
--- `script::numbers::natural` meets its contract.
+-- `items::natural` meets its contract.
 use mathlib.Core.Bool.{true, false}
 use mathlib.Core.Path.{_≡_, refl}
 use native.Mathlib.Omega.{arith}
@@ -8,9 +8,9 @@ use lib.Signed.{ltZ}
 use mir.Facts.{toZ-ofZ}
 use mir.Syntax.{w64}
 use Rattle.laws.proofs.Ints.{signed, fitted, whole}
-use Rattle.script.specs.Items.{naturalOf}
-use Rattle.script.proofs.numbers.natural.Statement.{statement}
-use Rattle.script.proofs.numbers.natural.Tie as tie
+use Rattle.items.specs.Items.{naturalOf}
+use Rattle.items.proofs.natural.Statement.{statement}
+use Rattle.items.proofs.natural.Tie as tie
 
 negative : (z : ℤ) → ltZ z (pos 0) ≡ true → 18446744073709551615 ≡ naturalOf z
 negative (pos n) e = absurd (omega (arith, ltb-true))

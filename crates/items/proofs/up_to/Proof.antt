@@ -1,4 +1,4 @@
--- `script::numbers::up_to` meets its contract.
+-- `items::up_to` meets its contract.
 use Prim.Native.Nat.{ℕ, _≤_, _<_}
 use mathlib.Core.Path.{_≡_}
 use native.Mathlib.Omega.{arith}
@@ -6,9 +6,9 @@ use borrow.Author.Needs.{needs}
 use borrow.Author.Tests.{le-leb, lt-leb}
 use lib.IntN.{ℤ}
 use mir.Facts.{toZ-ofZ}
-use Rattle.script.specs.Items.{naturalOf, upTo}
-use Rattle.script.proofs.numbers.up_to.Statement.{statement}
-use Rattle.script.proofs.numbers.up_to.Tie as tie
+use Rattle.items.specs.Items.{naturalOf, upTo}
+use Rattle.items.proofs.up_to.Statement.{statement}
+use Rattle.items.proofs.up_to.Tie as tie
 
 module _ (highest m : ℕ) (z : ℤ) (e : m ≡ naturalOf z) where
   within : m ≤ highest → m ≡ upTo highest z

@@ -1,11 +1,11 @@
 // The commands of a script, each with its numbers. The bytes of an update and the readings of a feed stay in the list.
-ghost use Rattle.script.specs.Ranges.{InRange};
-use crate::numbers::MOST;
-use crate::numbers::Numbers;
-use crate::numbers::entry;
-use crate::numbers::item;
-use crate::numbers::natural;
+ghost use Rattle.commands.specs.Ranges.{InRange};
 use check::same;
+use items::MOST;
+use items::Numbers;
+use items::entry;
+use items::item;
+use items::natural;
 
 pub enum Command {
     Open {
@@ -238,7 +238,7 @@ fn with_three(word: &[u8], width: usize, height: usize, binned: usize) -> Comman
 }
 
 // The command of a word that takes the first `count` numbers of the list.
-pub(crate) fn named(word: &[u8], list: &Numbers, count: usize) -> Command
+pub fn named(word: &[u8], list: &Numbers, count: usize) -> Command
     ensures { λ r. ⌜ InRange r ⌝ }
 {
     if same(word, b"update") {

@@ -1,4 +1,4 @@
--- `script::numbers::bytes_of` meets its contract.
+-- `items::bytes_of` meets its contract.
 use Prim.Native.Nat.{_+_, _-_}
 use mathlib.Core.Path.{refl}
 use native.Mathlib.Omega.{arith}
@@ -7,10 +7,10 @@ use lib.ListN.{getD}
 use mir.Syntax.{w64}
 use Rattle.laws.specs.Lists.{each}
 use Rattle.laws.proofs.Ints.{back}
-use Rattle.script.specs.Items.{byteItem}
-use Rattle.script.proofs.Filled.{Filled, filled-more, filled-all}
-use Rattle.script.proofs.numbers.bytes_of.Statement.{statement}
-use Rattle.script.proofs.numbers.bytes_of.Tie as tie
+use Rattle.items.specs.Items.{byteItem}
+use Rattle.items.proofs.Filled.{Filled, filled-more, filled-all}
+use Rattle.items.proofs.bytes_of.Statement.{statement}
+use Rattle.items.proofs.bytes_of.Tie as tie
 
 abbrev Inv-loop : tie.InvT-loop
 Inv-loop list bytes₀ i₀ bytes i = Filled (byteItem list) bytes i

@@ -1,10 +1,11 @@
--- The items of a list: the numbers that follow its count.
+-- The numbers of a line, and the items of a list: the numbers that follow its count.
 use Prim.Native.Nat.{ℕ, _+_}
-use mathlib.Core.Bool.{Bool, cond}
+use mathlib.Core.Bool.{Bool, cond, _&&_}
 use mathlib.Core.List.{List}
 use lib.Dec.{leb}
-use lib.IntN.{ℤ, pos, negsuc}
+use lib.IntN.{ℤ, pos, negsuc, negℤ}
 use lib.ListN.{getD}
+use lib.Signed.{leZ}
 use Rattle.laws.specs.Lists.{each}
 
 -- a number with no sign; a negative one becomes the largest of 64 bits
@@ -15,6 +16,10 @@ naturalOf (negsuc n) = 18446744073709551615
 -- a number up to the highest; 0 for any other
 abbrev pub upTo : ℕ → ℤ → ℕ
 upTo highest z = cond (leb (naturalOf z) highest) (naturalOf z) 0
+
+-- a number of 32 bits with a sign; 0 for any other
+abbrev pub entryOf : ℤ → ℤ
+entryOf z = cond (leZ (negℤ (pos 2147483648)) z && leZ z (pos 2147483647)) z (pos 0)
 
 -- an item as a byte, and as a number of 16 bits: the one after i others, or the first each time
 abbrev pub byteItem : List ℤ → ℕ → ℕ

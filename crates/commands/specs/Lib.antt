@@ -1,0 +1,2 @@
+-- The ranges of a command's numbers.
+pub mod Ranges
