@@ -28,11 +28,11 @@ use Rattle.sums.proofs.Bounds.{cover-holds}
 use Rattle.sums.proofs.Pixel.{entry-sample}
 use Rattle.meaning.specs.declared.WordRead.{WordRead}
 use Rattle.meaning.specs.declared.WordRead.the-variants.{Saturated, Negative}
-use Rattle.words.specs.Word.{smallestMark, isNegative, wordBy, wordOf}
+use Rattle.encoding.specs.Word.{smallestMark, isNegative, wordBy, wordOf}
 use Rattle.meaning.specs.Meaning.{readWord}
-use Rattle.words.specs.Laws.{Between}
-use Rattle.words.proofs.Firsts.{first-or}
-use Rattle.words.proofs.Laws.{laws}
+use Rattle.encoding.specs.Meanings.{Between}
+use Rattle.encoding.proofs.Firsts.{first-or}
+use Rattle.encoding.proofs.Meanings.{laws}
 use Rattle.history.specs.Calls.{Ledger}
 use Rattle.history.specs.Readings.{readingAt, exactSums, overAt, FirstOver, NeverOver}
 use Rattle.history.specs.Demands.{WordClaim}

@@ -12,9 +12,9 @@ use Rattle.laws.proofs.Parts.{map-same}
 use Rattle.checks.specs.declared.Answer.the-variants.{Taken}
 use Rattle.sums.specs.Exact.{entryAfter}
 use Rattle.sums.proofs.Agrees.{agrees-full}
-use Rattle.words.specs.Word.{wordOf}
-use Rattle.layout.specs.Frame.{wordAt, frameOf}
-use Rattle.layout.proofs.Grid.{pixels-on, pixels-some}
+use Rattle.encoding.specs.Word.{wordOf}
+use Rattle.encoding.specs.Frame.{wordAt, frameOf}
+use Rattle.encoding.proofs.Grid.{pixels-on, pixels-some}
 use Rattle.control.specs.declared.Coverage.the-variants.{Covered}
 use Rattle.read_out.specs.ReadOut.{readOutOf, readOutWords}
 use Rattle.control.specs.Covered.{coverageOf}

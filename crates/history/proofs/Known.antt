@@ -6,7 +6,7 @@ use Rattle.settings.specs.Covered.{positives, isCovered}
 use Rattle.entries.specs.Mark.{sampleOf}
 use Rattle.step.specs.Step.{step}
 use Rattle.sums.specs.Feed.{feedOne, feedAll}
-use Rattle.words.specs.Word.{smallestMark, isNegative}
+use Rattle.encoding.specs.Word.{smallestMark, isNegative}
 use Rattle.meaning.specs.Meaning.{meaning, readWord}
 use Rattle.history.specs.Known.{AllKnown}
 

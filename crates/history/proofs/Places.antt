@@ -25,7 +25,7 @@ use Rattle.update.specs.Update as SettingsUpdate
 use Rattle.readings.specs.Readings.{readingInRange}
 use Rattle.entries.specs.Possible.{possible}
 use Rattle.written.specs.Written.{notPossibleAt}
-use Rattle.layout.specs.Frame.{wordCount}
+use Rattle.encoding.specs.Frame.{wordCount}
 use Rattle.board.specs.declared.Board.{Board}
 use Rattle.board.specs.Board.{area, wanted, sound, unsound}
 use Rattle.board.specs.RampChecks.{rampChecks}

@@ -20,10 +20,10 @@ use Rattle.sums.specs.Feed.{sumsAfter}
 use Rattle.sums.specs.Exact.{exactSum}
 use Rattle.meaning.specs.declared.WordRead.{WordRead}
 use Rattle.meaning.specs.declared.WordRead.the-variants.{Saturated, Negative}
-use Rattle.words.specs.Word.{isNegative}
-use Rattle.layout.specs.Frame.{frameOf}
+use Rattle.encoding.specs.Word.{isNegative}
+use Rattle.encoding.specs.Frame.{frameOf}
 use Rattle.meaning.specs.Meaning.{readWord}
-use Rattle.words.specs.Laws.{Between}
+use Rattle.encoding.specs.Meanings.{Between}
 use Rattle.board.specs.declared.Board.{Board}
 use Rattle.control.specs.declared.Coverage.the-variants.{Covered, Uncovered}
 use Rattle.board.specs.Board.{sound}

@@ -13,7 +13,7 @@ use Rattle.sums.specs.Feed.{sumsAfter}
 use Rattle.sums.specs.Exact.{readingOf, exactSum}
 use Rattle.meaning.specs.declared.WordRead.{WordRead}
 use Rattle.meaning.specs.declared.WordRead.the-variants.{Ordinary, Saturated, Negative}
-use Rattle.words.specs.Word.{wordOf}
+use Rattle.encoding.specs.Word.{wordOf}
 use Rattle.meaning.specs.Meaning.{limit, readWord}
 
 -- Of one pixel's ramp: the settings and the readings; the exact sum, the entry that they leave, its word and what that reads as; and whether the settings are

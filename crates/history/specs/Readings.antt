@@ -7,8 +7,8 @@ use Rattle.laws.specs.Lists.{each, anyOf}
 use Rattle.laws.specs.Numbers.{First, firstOf}
 use Rattle.step.specs.Step.{overIt}
 use Rattle.sums.specs.Exact.{readingOf, exactSum}
-use Rattle.words.specs.Word.{wordBy}
-use Rattle.layout.specs.Frame.{pixelsOf, wordCount}
+use Rattle.encoding.specs.Word.{wordBy}
+use Rattle.encoding.specs.Frame.{pixelsOf, wordCount}
 use Rattle.history.specs.Calls.{Ledger}
 
 -- M

@@ -19,7 +19,7 @@ use Rattle.checks.specs.Checks.{refusal, first, verdict, byAnswer}
 use Rattle.checks.proofs.Laws.{first-taken, verdict-append}
 use Rattle.record.specs.Record.{mapOf}
 use Rattle.update.proofs.Overlong.{longest}
-use Rattle.layout.specs.Frame.{wordCount}
+use Rattle.encoding.specs.Frame.{wordCount}
 use Rattle.whole_frame.specs.Chain.{frameAnswer, frameWords}
 use Rattle.whole_frame.proofs.Enough.{refused-last, overlongChecks, overlong-answer, enough-answer, enough-words}
 use Rattle.input.specs.Input.{widthOf, heightOf, isBinned, recordOf, readingsOf, maxPixels, maxReadings}

@@ -7,7 +7,7 @@ use lib.IntN.{ℤ, pos}
 use lib.ListN.{length, take, replicate}
 use Rattle.checks.specs.declared.Answer.{Answer}
 use Rattle.checks.specs.Checks.{verdict, byAnswer}
-use Rattle.layout.specs.Frame.{wordCount}
+use Rattle.encoding.specs.Frame.{wordCount}
 use Rattle.begin.specs.Begun.{started}
 use Rattle.whole_frame.specs.Chain.{frameAnswer, frameWords}
 use Rattle.input.specs.Input.{widthOf, heightOf, isBinned, recordOf, readingsOf, maxPixels}

@@ -4,7 +4,7 @@ ghost use mathlib.Core.Bool.{cond};
 ghost use Prim.Native.Nat.{ℕ, _/_, _≤_};
 ghost use Rattle.checks.specs.Checks.{verdict};
 ghost use Rattle.checks.specs.declared.Answer.the-variants.{Taken};
-ghost use Rattle.layout.specs.Frame.{wordCount};
+ghost use Rattle.encoding.specs.Frame.{wordCount};
 ghost use Rattle.begin.specs.Begun.{started};
 ghost use Rattle.input.specs.Input.{maxPixels};
 ghost use Rattle.input.specs.Checks.{area, inputChecks};

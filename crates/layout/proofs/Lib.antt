@@ -1,4 +1,2 @@
--- The laws of squares, of the pixels of a word, and of the layout.
+-- The squares of a board.
 pub mod Squares
-pub mod Grid
-pub mod Laws

@@ -1,22 +1,17 @@
 -- The squares of a board.
---     sides, room     what even sides hold, and one row of squares more
+--     room            one row of squares more
 --     row-word        a word of a row of squares is the frame's
 use Prim.Native.Nat.{ℕ, _+_, _*_, _/_, _%_, _≤_, _<_}
 use mathlib.Core.Bool.{true}
 use mathlib.Core.List.{List}
-use mathlib.Core.Path.{_≡_, ap, _∙_}
+use mathlib.Core.Path.{_≡_, _∙_}
 use native.Mathlib.Nat.{mul-add-div-right, mul-add-mod-self-right, div-eq-of-lt, mod-eq-of-lt, mul-assoc, mul-left-comm, add-mul, one-mul, suc-mul, mul-le-mul-right}
 use native.Mathlib.Omega.{arith}
 use lib.IntN.{ℤ, pos}
 use lib.ListN.{take, drop}
-use Rattle.laws.proofs.Numbers.{quarter}
 use Rattle.laws.proofs.Parts.{part-at}
-use Rattle.layout.specs.Frame.{pixelsOf, wordAt}
+use Rattle.encoding.specs.Frame.{pixelsOf, wordAt}
 use Rattle.layout.specs.Requires.{rowWord}
-
--- the sides: two halves to the width, and four pixels to a square
-pub sides : (w k : ℕ) → (w % 2 ≡ 0) × (k % 2 ≡ 0) → (w ≡ 2 * (w / 2)) × (w * k ≡ 4 * (k / 2 * (w / 2)))
-sides w k h = let p : w ≡ 2 * (w / 2) = omega arith in let q : k ≡ 2 * (k / 2) = omega arith in (p, ap (λ (n : ℕ). n * k) p ∙ ap (λ (n : ℕ). 2 * (w / 2) * n) q ∙ quarter (w / 2) (k / 2))
 
 pub room : (row rows h : ℕ) → row < rows → row * h + h ≤ rows * h
 room row rows h p = rw (suc-mul row h) at (mul-le-mul-right h p)

@@ -1,4 +1,2 @@
--- Which pixels a word is made of, and the frame of the sums.
-pub mod Frame
+-- What the passes over a frame require.
 pub mod Requires
-pub mod Laws

@@ -7,8 +7,8 @@ use lib.IntN.{ℤ, pos}
 use lib.ListN.{length, getD}
 use Rattle.settings.specs.Settings.{truncationInRange}
 use Rattle.entries.specs.Range.{entryInRange}
-use Rattle.words.specs.Word.{wordOf}
-use Rattle.layout.specs.Frame.{wordCount}
+use Rattle.encoding.specs.Word.{wordOf}
+use Rattle.encoding.specs.Frame.{wordCount}
 
 -- what a frame is made of: the sums of width × height pixels, each in range; room for its words; even sides if binned; and an r in range
 pub record Readable (width height : ℕ) (binned : Bool) (r : ℕ) (sums : List ℤ) (words : List ℕ) : Type 0 where

@@ -6,7 +6,7 @@ ghost use lib.IntN.{pos};
 ghost use lib.ListN.{length, getD};
 ghost use Rattle.laws.specs.Lists.{each};
 ghost use Rattle.settings.specs.Settings.{truncationInRange};
-ghost use Rattle.layout.specs.Frame.{frameOf};
+ghost use Rattle.encoding.specs.Frame.{frameOf};
 ghost use Rattle.entries.specs.Range.{entryInRange};
 ghost use Rattle.layout.specs.Requires.{Readable, rowWord};
 use words::pixel_word;

@@ -16,7 +16,7 @@ use Rattle.checks.proofs.Search.{found-every, none-every}
 use Rattle.entries.specs.Possible.{possible}
 use Rattle.entries.specs.Range.{entryInRange}
 use Rattle.entries.proofs.Range.{possible-in-range}
-use Rattle.layout.specs.Frame.{wordCount}
+use Rattle.encoding.specs.Frame.{wordCount}
 use Rattle.layout.specs.Requires.{Readable}
 use Rattle.board.specs.declared.Board.{Board}
 use Rattle.board.specs.Board.{area, wanted}

@@ -9,7 +9,7 @@ use Rattle.checks.specs.declared.Answer.{Answer}
 use Rattle.checks.specs.Search.{firstPlace}
 use Rattle.checks.specs.Checks.{when, found, verdict, byAnswer}
 use Rattle.entries.specs.Possible.{possible}
-use Rattle.layout.specs.Frame.{wordCount, frameOf}
+use Rattle.encoding.specs.Frame.{wordCount, frameOf}
 use Rattle.board.specs.declared.Board.{Board}
 use Rattle.board.specs.declared.Outcome.{Outcome}
 use Rattle.board.specs.Board.{area, wanted, ended, leaves}

@@ -3,7 +3,7 @@ ghost use mathlib.Core.Path.{_≡_};
 ghost use mathlib.Core.Bool.{true};
 ghost use lib.ListN.{length};
 ghost use Rattle.checks.specs.Checks.{verdict};
-ghost use Rattle.layout.specs.Frame.{wordCount};
+ghost use Rattle.encoding.specs.Frame.{wordCount};
 ghost use Rattle.board.specs.Board.{area, ofTakenSides, sound};
 ghost use Rattle.read_out.specs.ReadOut.{outputChecks, readOutChecks, readOutOf, readOutWords};
 use board::Board;

@@ -17,8 +17,8 @@ use Rattle.entries.specs.Mark.{sampleOf}
 use Rattle.entries.specs.Possible.{possibleAfter}
 use Rattle.step.specs.Step.{step}
 use Rattle.sums.specs.Feed.{feedOne, feedAll}
-use Rattle.words.specs.Word.{smallestMark, isNegative}
-use Rattle.layout.specs.Frame.{pixelsOf, wordAt, frameOf}
+use Rattle.encoding.specs.Word.{smallestMark, isNegative}
+use Rattle.encoding.specs.Frame.{pixelsOf, wordAt, frameOf}
 use Rattle.board.specs.Board.{sidesTaken, sound}
 use Rattle.board.specs.Open.{openOf}
 use Rattle.control.specs.Update.{updateOf}

@@ -24,7 +24,7 @@ use Rattle.ramp.specs.Requires.{Feedable}
 use Rattle.sums.proofs.Feeding.{feed-length}
 use Rattle.sums.proofs.Agrees.{agrees-none, agrees-all}
 use Rattle.sums.proofs.Honest.{all-possible}
-use Rattle.layout.specs.Frame.{wordCount, frameOf}
+use Rattle.encoding.specs.Frame.{wordCount, frameOf}
 use Rattle.layout.specs.Requires.{Readable}
 use Rattle.board.specs.declared.Board.{Board}
 use Rattle.board.specs.Board.{area, wanted}

@@ -14,7 +14,7 @@ use Rattle.laws.proofs.Ints.{up, dn, sum, fits, signed}
 use Rattle.laws.proofs.Tests.{clash}
 use Rattle.entries.specs.Mark.{marked, sampleOf}
 use Rattle.entries.proofs.Marks.{sample-is}
-use Rattle.words.specs.Word.{smaller}
+use Rattle.encoding.specs.Word.{smaller}
 use Rattle.entries.specs.Range.{entryInRange}
 use Rattle.entries.proofs.Range.{Small, by-kind, range}
 

@@ -1,6 +1,4 @@
--- The laws of words.
-pub mod Firsts
+-- Entries, raised entries, and the word that the code makes of them.
 pub mod Entries
 pub mod Raising
 pub mod Words
-pub mod Laws

@@ -23,7 +23,7 @@ use Rattle.laws.proofs.Ints.{signed}
 use Rattle.laws.proofs.Numbers.{less}
 use Rattle.entries.specs.Mark.{marked, sampleOf}
 use Rattle.entries.proofs.Marks.{is-marked, sample-is, sample-none, by-mark}
-use Rattle.words.specs.Word.{smaller, smallestMark, isNegative, cutBy, wordBy, wordOf}
+use Rattle.encoding.specs.Word.{smaller, smallestMark, isNegative, cutBy, wordBy, wordOf}
 use Rattle.words.proofs.Raising.{Raised}
 
 -- a sample

@@ -7,7 +7,7 @@ ghost use lib.IntN.{pos, natAbs, _+ℤ_, _-ℤ_};
 ghost use lib.Signed.{_≤ℤ_, leZ, ltZ};
 ghost use Rattle.settings.specs.Settings.{truncationInRange};
 ghost use Rattle.entries.specs.Mark.{marked};
-ghost use Rattle.words.specs.Word.{wordOf, cutBy};
+ghost use Rattle.encoding.specs.Word.{wordOf, cutBy};
 ghost use Rattle.entries.specs.Range.{entryInRange};
 use entries::MARK;
 use numbers::wrapping_add;

@@ -12,7 +12,7 @@ use mir.Syntax.{w32}
 use Rattle.laws.specs.Lists.{each}
 use Rattle.laws.proofs.Ints.{back}
 use Rattle.laws.proofs.Each.{each-store}
-use Rattle.layout.specs.Frame.{pixelsOf, wordAt, frameOf}
+use Rattle.encoding.specs.Frame.{pixelsOf, wordAt, frameOf}
 use Rattle.layout.proofs.write_pixels.Statement.{statement}
 use Rattle.layout.proofs.write_pixels.Tie as tie
 

@@ -12,10 +12,11 @@ use denote.Ref.{now}
 use Rattle.laws.specs.Lists.{each}
 use Rattle.laws.proofs.Each.{each-part}
 use Rattle.laws.proofs.Parts.{part-length, part-keeps}
-use Rattle.layout.specs.Frame.{wordAt, frameOf}
+use Rattle.encoding.specs.Frame.{wordAt, frameOf}
 use Rattle.entries.specs.Range.{entryInRange}
 use Rattle.layout.specs.Requires.{rowWord}
-use Rattle.layout.proofs.Squares.{sides, room, row-word}
+use Rattle.layout.proofs.Squares.{room, row-word}
+use Rattle.encoding.proofs.Grid.{sides}
 use Rattle.layout.proofs.write_squares.Statement.{statement}
 use Rattle.layout.proofs.write_squares.Tie as tie
 

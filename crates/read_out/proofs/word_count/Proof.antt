@@ -3,7 +3,7 @@ use Prim.Native.Nat.{ℕ, _/_}
 use mathlib.Core.Bool.{Bool, true, false, cond}
 use mathlib.Core.Path.{_≡_, refl}
 use borrow.Author.Needs.{needs}
-use Rattle.layout.specs.Frame.{wordCount}
+use Rattle.encoding.specs.Frame.{wordCount}
 use Rattle.board.specs.Board.{area, sidesTaken}
 use Rattle.read_out.proofs.word_count.Statement.{statement}
 use Rattle.read_out.proofs.word_count.Tie as tie

@@ -13,7 +13,7 @@ use mir.Facts.{toZ-ofZ}
 use Rattle.laws.proofs.Ints.{back}
 use Rattle.entries.specs.Mark.{marked, sampleOf}
 use Rattle.numbers.specs.Wrapped.{wrapped}
-use Rattle.words.specs.Word.{smaller, smallestMark}
+use Rattle.encoding.specs.Word.{smaller, smallestMark}
 use Rattle.words.proofs.Entries.{none-both}
 use Rattle.words.proofs.Raising.{Raised, entry-raised, lower, sum-raised, whole}
 use Rattle.settings.proofs.Parts.{truncation-parts}

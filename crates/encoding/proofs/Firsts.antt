@@ -6,7 +6,7 @@ use mathlib.Core.Path.{_≡_, refl, ap}
 use native.Mathlib.Omega.{arith}
 use Rattle.laws.specs.Numbers.{orElse, firstOf}
 use Rattle.laws.proofs.Firsts.{Says, first-says}
-use Rattle.words.specs.Word.{smaller}
+use Rattle.encoding.specs.Word.{smaller}
 
 module _ (t u : ℕ → Bool) where
   one-more : (k : ℕ) (o p : Option ℕ) → Says t k o → Says u k p → (a b : Bool)

@@ -5,7 +5,7 @@ use mathlib.Core.List.{List, [], _∷_, map}
 use lib.IntN.{ℤ, pos}
 use lib.ListN.{length, getD}
 use Rattle.laws.specs.Lists.{each}
-use Rattle.words.specs.Word.{wordOf}
+use Rattle.encoding.specs.Word.{wordOf}
 
 -- rows and columns are counted from 0, and pixels go row by row
 abbrev pub pixelAt : ℕ → ℕ → ℕ → ℕ

@@ -1,16 +1,21 @@
 -- The pixels of a word.
+--     sides            what even sides hold
 --     pixels-on        the pixels of a word lie on the board
 --     pixels-some      there is at least one
 use Prim.Native.Nat.{ℕ, _*_, _/_, _%_, _≤_, _<_}
 use mathlib.Core.Bool.{Bool, true, false}
-use mathlib.Core.Path.{_≡_, refl}
+use mathlib.Core.Path.{_≡_, refl, ap, _∙_}
 use native.Mathlib.Nat.{mul-comm, div-lt-iff-lt-mul, mod-lt}
 use native.Mathlib.Omega.{arith}
 use lib.Arith.{digits-lt}
 use lib.ListN.{length}
 use Rattle.laws.proofs.Parts.{All}
-use Rattle.layout.specs.Frame.{pixelAt, pixelsOf, wordCount}
-use Rattle.layout.proofs.Squares.{sides}
+use Rattle.encoding.specs.Frame.{pixelAt, pixelsOf, wordCount}
+use Rattle.laws.proofs.Numbers.{quarter}
+
+-- the sides: two halves to the width, and four pixels to a square
+pub sides : (w k : ℕ) → (w % 2 ≡ 0) × (k % 2 ≡ 0) → (w ≡ 2 * (w / 2)) × (w * k ≡ 4 * (k / 2 * (w / 2)))
+sides w k h = let p : w ≡ 2 * (w / 2) = omega arith in let q : k ≡ 2 * (k / 2) = omega arith in (p, ap (λ (n : ℕ). n * k) p ∙ ap (λ (n : ℕ). 2 * (w / 2) * n) q ∙ quarter (w / 2) (k / 2))
 
 -- a row and a column of the board
 on-board : (w h row col : ℕ) → row < h → col < w → pixelAt w row col < w * h

@@ -1,4 +1,4 @@
--- What the word of entries reads as. `proofs/Laws.antt` shows it.
+-- What the word of entries reads as. `proofs/Meanings.antt` shows it.
 use Prim.Native.Nat.{ℕ, _*_, _≤_, _<_}
 use mathlib.Core.Bool.{true, false}
 use mathlib.Core.List.{List}
@@ -14,7 +14,7 @@ use Rattle.settings.specs.Settings.{truncationInRange}
 use Rattle.settings.specs.Covered.{ceiling}
 use Rattle.meaning.specs.declared.WordRead.{WordRead}
 use Rattle.meaning.specs.declared.WordRead.the-variants.{Ordinary, Saturated, Negative}
-use Rattle.words.specs.Word.{smallestMark, isNegative, wordOf}
+use Rattle.encoding.specs.Word.{smallestMark, isNegative, wordOf}
 use Rattle.meaning.specs.Meaning.{readWord}
 
 -- a word that reads as ordinary: its two limits are 64-bit floats, exactly the whole numbers lo and hi, and pixels × lo ≤ sum < pixels × hi

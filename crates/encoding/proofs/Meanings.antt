@@ -14,9 +14,9 @@ use Rattle.laws.specs.Lists.{total}
 use Rattle.laws.proofs.Tests.{clash}
 use Rattle.settings.specs.Settings.{truncationInRange}
 use Rattle.settings.specs.Covered.{ceiling}
-use Rattle.words.specs.Word.{isNegative, cutBy}
+use Rattle.encoding.specs.Word.{isNegative, cutBy}
 use Rattle.meaning.specs.Meaning.{limit, readWord}
-use Rattle.words.specs.Laws.{Between, WordLaws}
+use Rattle.encoding.specs.Meanings.{Between, WordLaws}
 use Rattle.meaning.proofs.Laws as MeaningLaws
 
 module _ (r : ℕ) (in-r : truncationInRange r ≡ true) where

@@ -1,3 +1,0 @@
--- From entries to a word.
-pub mod Word
-pub mod Laws
