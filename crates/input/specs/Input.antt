@@ -2,10 +2,11 @@
 -- low byte first. A byte past the end reads as 0.
 use Prim.Native.Nat.{ℕ, _+_, _*_}
 use mathlib.Core.Bool.{Bool}
-use mathlib.Core.List.{List, [], _∷_}
+use mathlib.Core.List.{List}
 use lib.Dec.{eqb}
 use lib.ListN.{getD, take, drop}
 use Rattle.record.specs.Record.{pairAt}
+use Rattle.pairs.specs.Pairs.{pairs}
 
 abbrev pub widthOf : List ℕ → ℕ
 widthOf bytes = pairAt bytes 0
@@ -28,12 +29,6 @@ recordOf bytes = take (recordLength bytes) (drop 6 bytes)
 -- where the readings start
 abbrev pub readingsAt : List ℕ → ℕ
 readingsAt bytes = 6 + recordLength bytes
-
--- the numbers of a list of bytes, two bytes each
-unfoldable pub pairs : List ℕ → List ℕ
-pairs [] = []
-pairs (low ∷ []) = []
-pairs (low ∷ high ∷ bytes) = (low + 256 * high) ∷ pairs bytes
 
 abbrev pub readingsOf : List ℕ → List ℕ
 readingsOf bytes = pairs (drop (readingsAt bytes) bytes)

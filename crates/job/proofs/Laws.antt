@@ -12,14 +12,16 @@ use Rattle.laws.proofs.Parts.{part-at}
 use Rattle.checks.specs.Checks.{byAnswer}
 use Rattle.begin.specs.Begun.{started}
 use Rattle.whole_frame.specs.Chain.{frameAnswer, frameWords}
-use Rattle.input.specs.Input.{widthOf, heightOf, binnedByte, isBinned, recordLength, recordOf, readingsAt, pairs, maxReadings}
+use Rattle.pairs.specs.Pairs.{pairs}
+use Rattle.pairs.proofs.Pairs.{pairs-take}
+use Rattle.input.specs.Input.{widthOf, heightOf, binnedByte, isBinned, recordLength, recordOf, readingsAt, maxReadings}
 use Rattle.input.specs.Checks.{inputChecks}
 use Rattle.job.specs.declared.Job.{Job}
 use Rattle.update.proofs.Overlong.{longest}
 use Rattle.job.specs.Kept.{capacity}
 use Rattle.job.specs.Job.{zeroSums, zeroWords, jobAnswer, jobWords, truncationOf, Result}
 use Rattle.job.specs.Laws.{JobLaws}
-use Rattle.job.proofs.Pairs.{drop-take, pairs-take}
+use Rattle.job.proofs.Parts.{drop-take}
 use Rattle.job.proofs.Jobs.{Handed, handed, firstReadings, answer-is, words-are, overlong-is, overlong-refused}
 
 -- the first readings lie in the first bytes

@@ -2,7 +2,6 @@
 use checks::Answer;
 use input::PIXELS;
 
-mod bytes;
 pub mod run;
 
 // One reading more than the largest job wants: a reading too many is still seen.

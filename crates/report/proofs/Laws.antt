@@ -26,7 +26,7 @@ use Rattle.control.specs.Ramp.{startOf}
 use Rattle.feed.specs.Feed.{feedOf, fedSums}
 use Rattle.read_out.specs.ReadOut.{readOutOf, readOutWords}
 use Rattle.whole_frame.specs.Chain.{frameAnswer, frameWords}
-use Rattle.input.specs.Input.{pairs}
+use Rattle.pairs.specs.Pairs.{pairs}
 use Rattle.text.specs.Text.{digitCount, decimal}
 use Rattle.text.proofs.Laws as TextLaws
 use Rattle.lines.specs.Lines.{lineText, linesText}

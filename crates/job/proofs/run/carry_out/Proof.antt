@@ -14,10 +14,11 @@ use Rattle.checks.specs.declared.Answer.the-variants.{Taken}
 use Rattle.checks.specs.Checks.{verdict}
 use Rattle.begin.specs.Begun.{started}
 use Rattle.whole_frame.specs.Chain.{frameAnswer, frameWords}
-use Rattle.input.specs.Input.{pairs, readingsAt, maxPixels, maxReadings}
+use Rattle.pairs.specs.Pairs.{pairs}
+use Rattle.input.specs.Input.{readingsAt, maxPixels, maxReadings}
 use Rattle.input.specs.Checks.{inputChecks}
 use Rattle.job.specs.Job.{jobAnswer}
-use Rattle.job.proofs.Pairs.{record-part, bytes-length, readings-part, Lies, lies}
+use Rattle.job.proofs.Parts.{record-part, bytes-length, readings-part, Lies, lies}
 use Rattle.job.proofs.Jobs.{wordsOf, Handed, handed, few-words, zeros, firstReadings, answer-is, turned-down, carried}
 use Rattle.job.proofs.run.carry_out.Statement.{statement}
 use Rattle.job.proofs.run.carry_out.Tie as tie

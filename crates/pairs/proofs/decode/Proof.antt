@@ -1,4 +1,4 @@
--- `job::bytes::decode` meets its contract.
+-- `pairs::decode` meets its contract.
 use Prim.Native.Nat.{_-_, _≤_, _<_}
 use mathlib.Core.Path.{_≡_, sym}
 use borrow.Author.Needs.{needs}
@@ -7,10 +7,10 @@ use native.Mathlib.Omega.{arith}
 use denote.Ref.{now}
 use lib.ListN.{length, take, length-set}
 use lib.Seq.{take-suc, take-suc-set, take-all}
-use Rattle.input.specs.Input.{pairs}
-use Rattle.job.proofs.Pairs.{pairs-at, pairs-length}
-use Rattle.job.proofs.bytes.decode.Statement.{statement}
-use Rattle.job.proofs.bytes.decode.Tie as tie
+use Rattle.pairs.specs.Pairs.{pairs}
+use Rattle.pairs.proofs.Pairs.{pairs-at, pairs-length}
+use Rattle.pairs.proofs.decode.Statement.{statement}
+use Rattle.pairs.proofs.decode.Tie as tie
 
 abbrev Inv-loop : tie.InvT-loop
 Inv-loop bytes readings₀ i₀ readings i = (i ≤ length readings) × (length readings ≡ length readings₀) × (take i readings ≡ take i (pairs bytes))

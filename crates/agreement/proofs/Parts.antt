@@ -35,7 +35,7 @@ use Rattle.whole_frame.specs.Chain.{fed, readOut, frameAnswer, frameSums, frame
 use Rattle.whole_frame.proofs.Whole.{frame-is, then-read-out, words-are}
 use Rattle.steps.proofs.Stepping.{feed-is, feed-left, read-out-is, read-out-left}
 use Rattle.steps.specs.Steps.{partFed, allFed, feedAnswer, feedLeaves, readOutAnswer, readOutLeaves}
-use Rattle.frame.specs.Laws.{fedInParts, PartsTaken}
+use Rattle.agreement.specs.Laws.{fedInParts, PartsTaken}
 
 module _ (w h : ℕ) (binned : Bool) (bytes : List ℕ) where
   abbrev b : Board

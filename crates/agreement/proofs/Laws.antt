@@ -1,9 +1,9 @@
--- The laws of frames and of their single steps.
-use Rattle.frame.specs.Laws.{FrameLaws}
-use Rattle.frame.proofs.Parts.{whole-answer, whole-sums, whole-words}
-use Rattle.frame.proofs.Calls.{frame-from, frame-claim}
+-- The laws between a whole frame, its single steps and a list of calls.
+use Rattle.agreement.specs.Laws.{AgreementLaws}
+use Rattle.agreement.proofs.Parts.{whole-answer, whole-sums, whole-words}
+use Rattle.agreement.proofs.Calls.{frame-from, frame-claim}
 
-pub laws : FrameLaws
+pub laws : AgreementLaws
 laws = record {
   in-parts = λ w h binned bytes parts sums output t full read. (
     whole-answer w h binned bytes parts sums output t full read,

@@ -22,7 +22,7 @@ use Rattle.begin.specs.Begun.{updated, started, begun}
 use Rattle.whole_frame.specs.Chain as Chain
 use Rattle.whole_frame.specs.Chain.{fed, frameAnswer, frameWords}
 use Rattle.whole_frame.proofs.Whole.{frame-is}
-use Rattle.frame.specs.Laws.{ledgerOf}
+use Rattle.agreement.specs.Laws.{ledgerOf}
 
 module _ (w h : ℕ) (binned : Bool) (bytes xs : List ℕ) (sums : List ℤ) (output : List ℕ) (taken : frameAnswer w h binned bytes xs sums output ≡ Taken) where
   abbrev b : Board

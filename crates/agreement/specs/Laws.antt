@@ -1,4 +1,4 @@
--- What must be true of frames and of their single steps, beside the contracts. `proofs/Laws.antt` shows it.
+-- What must be true of a whole frame, its single steps and lists of calls, beside the contracts. `proofs/Laws.antt` shows it.
 use Prim.Native.Nat.{ℕ, _+_}
 use mathlib.Core.Bool.{Bool}
 use mathlib.Core.List.{List, [], _∷_}
@@ -33,7 +33,7 @@ PartsTaken width height binned bytes count (part ∷ parts) sums =
 abbrev pub ledgerOf : ℕ → ℕ → Bool → List ℕ → List ℕ → List ℤ → Ledger
 ledgerOf width height binned bytes readings sums = next (next (next (fresh width height binned) (update bytes)) start) (feed readings sums)
 
-pub record FrameLaws : Type 0 where
+pub record AgreementLaws : Type 0 where
   -- a ramp that is fed in parts, all of them and the Read out taken, leaves what a frame in one call leaves, which is taken too
   pub in-parts : (width height : ℕ) (binned : Bool) (bytes : List ℕ) (parts : List (List ℕ)) (sums : List ℤ) (output : List ℕ)
       → PartsTaken width height binned bytes 0 parts sums

@@ -1,23 +1,23 @@
--- The parts of an input, and the laws of `pairs`.
+-- The parts of an input.
 --     take-least, drop-least     a part that is cut where the list ends
 --     drop-take                  the end of a front
 --     record-part                the record
---     pairs-take, pairs-at, pairs-length     a part, an element, how many
 --     bytes-length, readings-part            the first readings and their bytes
 --     Lies, lies                             the order of the places between the parts
 use Prim.Native.Nat.{ℕ, zero, suc, _+_, _-_, _*_, _/_, _≤_, _<_, min}
 use mathlib.Core.List.{List, [], _∷_}
-use mathlib.Core.Path.{_≡_, refl, sym, ap, _∙_}
+use mathlib.Core.Path.{_≡_, sym, _∙_}
 use borrow.Author.Tests.{ltb-true, ltb-false}
 use native.Mathlib.Omega.{arith}
 use lib.Dec.{ltb}
-use lib.ListN.{length, getD, take, drop, length-take, length-drop, drop-of-length-le}
+use lib.ListN.{length, take, drop, length-take, length-drop, drop-of-length-le}
 use lib.Seq.{take-all, take-nil, take-take}
 use mir.Syntax.{w64}
 use mir.Val.{Fits}
 use Rattle.laws.proofs.Tests.{cases}
-use Rattle.record.specs.Record.{pairAt}
-use Rattle.input.specs.Input.{pairs, recordLength, recordOf, readingsAt, readingsOf, maxReadings}
+use Rattle.pairs.specs.Pairs.{pairs}
+use Rattle.pairs.proofs.Pairs.{pairs-take, pairs-length}
+use Rattle.input.specs.Input.{recordLength, recordOf, readingsAt, readingsOf, maxReadings}
 
 module _ {A : Type 0} where
   take-least : (n m : ℕ) (l : List A) → n ≡ min m (length l) → take n l ≡ take m l
@@ -37,32 +37,6 @@ module _ {A : Type 0} where
   drop-take (suc i) zero l = let e : 0 - suc i ≡ 0 = omega arith in rw e
   drop-take (suc i) (suc n) [] = sym (take-nil (suc n - suc i))
   drop-take (suc i) (suc n) (x ∷ l) = let e : suc n - suc i ≡ n - i = omega arith in rw e (drop-take i n l)
-
-pub pairs-take : (n : ℕ) (l : List ℕ) → pairs (take (2 * n) l) ≡ take n (pairs l)
-unfolding pairs
-pairs-take zero l = refl
-pairs-take (suc n) l = let e : 2 * suc n ≡ suc (suc (2 * n)) = omega arith in rw e (by (pairs-take n) l)
-  where
-    by : ((l : List ℕ) → pairs (take (2 * n) l) ≡ take n (pairs l)) → (l : List ℕ) → pairs (take (suc (suc (2 * n))) l) ≡ take (suc n) (pairs l)
-    by more [] = refl
-    by more (x ∷ []) = refl
-    by more (x ∷ y ∷ l) = ap (λ (k : List ℕ). (x + 256 * y) ∷ k) (more l)
-
-pub pairs-length : (l : List ℕ) → length (pairs l) ≡ length l / 2
-unfolding pairs
-pairs-length [] = refl
-pairs-length (x ∷ []) = refl
-pairs-length (x ∷ y ∷ l) = omega (arith, pairs-length l)
-
-pub pairs-at : (l : List ℕ) (i : ℕ) → i < length (pairs l) → getD (pairs l) i 0 ≡ pairAt l (2 * i)
-unfolding pairs
-pairs-at [] i h = absurd (omega arith)
-pairs-at (x ∷ []) i h = absurd (omega arith)
-pairs-at (x ∷ y ∷ l) zero h = refl
-pairs-at (x ∷ y ∷ l) (suc i) h =
-    let e : 2 * suc i ≡ suc (suc (2 * i)) = omega arith in
-    let f : suc (suc (2 * i)) + 1 ≡ suc (suc (2 * i + 1)) = omega arith in
-    rw (e, f) (pairs-at l i (omega arith))
 
 -- from a place to a place, both cut where the list ends
 pub record-part : (l : List ℕ) (from start : ℕ) → from ≡ min 6 (length l) → start ≡ min (readingsAt l) (length l) → take (start - from) (drop from l) ≡ recordOf l

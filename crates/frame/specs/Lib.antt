@@ -1,2 +1,0 @@
--- The laws between a whole frame and its single steps.
-pub mod Laws
