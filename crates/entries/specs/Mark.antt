@@ -1,6 +1,6 @@
 -- A *mark* stands in the place of a sum once a pixel's reading was above the threshold.
 use Prim.Native.Nat.{ℕ, _+_, _-_}
-use mathlib.Core.Bool.{Bool, cond}
+use mathlib.Core.Bool.{Bool, cond, _&&_}
 use mathlib.Core.Option.{Option, none, some}
 use lib.IntN.{ℤ, pos, negsuc}
 use lib.Signed.{leZ}
@@ -16,6 +16,10 @@ mark n = pos (markBase + n)
 -- an entry from the mark of sample 1 on is marked
 abbrev pub marked : ℤ → Bool
 marked e = leZ (mark 1) e
+
+-- the mark of one of the samples a to b
+abbrev pub markOf : ℕ → ℕ → ℤ → Bool
+markOf a b e = leZ (mark a) e && leZ e (mark b)
 
 -- the sample of a marked entry; none for any other
 unfoldable pub sampleOf : ℤ → Option ℕ

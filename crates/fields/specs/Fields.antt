@@ -4,6 +4,7 @@ use mathlib.Core.Bool.{cond, not}
 use mathlib.Core.List.{List}
 use lib.Dec.{ltb}
 use lib.ListN.{set}
+use Rattle.laws.specs.Lists.{each}
 use Rattle.checks.specs.declared.Answer.{Answer}
 use Rattle.checks.specs.declared.Answer.the-variants.{Taken}
 use Rattle.checks.specs.Checks.{when}
@@ -23,6 +24,10 @@ checkOf Samples v = when (not (samplesInRange v)) 8
 -- the check of a bit's field, if the bit stands
 abbrev pub fieldCheck : List ℕ → ℕ → Answer
 fieldCheck bytes bit = cond (stands (mapOf bytes) bit) (checkOf (fieldOf bit) (numberOf bytes bit)) Taken
+
+-- the checks of a record's fields, from the lowest bit up
+abbrev pub fieldChecks : List ℕ → List Answer
+fieldChecks bytes = each (fieldCheck bytes) fieldCount
 
 -- settings with one field written
 abbrev pub withField : Field → ℕ → Settings → Settings

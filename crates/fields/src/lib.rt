@@ -1,9 +1,8 @@
 // The fields of a record: each is checked, and written into the settings.
 ghost use mathlib.Core.Path.{_≡_};
-ghost use Rattle.laws.specs.Lists.{each};
 ghost use Rattle.checks.specs.Checks.{verdict};
 ghost use Rattle.record.specs.Record.{mapOf, fieldCount, fieldOf, placeOf};
-ghost use Rattle.fields.specs.Fields.{checkOf, fieldCheck, withField, resulting};
+ghost use Rattle.fields.specs.Fields.{checkOf, fieldChecks, withField, resulting};
 use checks::Answer;
 use ranges::samples_in_range;
 use ranges::threshold_in_range;
@@ -62,7 +61,7 @@ fn with_field(before: Settings, bit: usize, number: u16) -> Settings
 
 // The fields in bit order, each that stands in the map checked and written, whatever the checks say.
 pub fn decode(before: Settings, bytes: &[u8]) -> Decoded
-    ensures answer { λ r. ⌜ r .answer ≡ verdict (each (fieldCheck (now (bytes .entry))) fieldCount) ⌝ }
+    ensures answer { λ r. ⌜ r .answer ≡ verdict (fieldChecks (now (bytes .entry))) ⌝ }
     ensures settings { λ r. ⌜ r .settings ≡ resulting (now (bytes .entry)) before ⌝ }
     ensures end { λ r. ⌜ r .end ≡ placeOf (mapOf (now (bytes .entry))) fieldCount ⌝ }
 {

@@ -18,7 +18,7 @@ use lib.Bits.{bitOr}
 use lib.Dec.{ltb}
 use lib.IntN.{ℤ, pos, negsuc, negℤ, _+ℤ_, _-ℤ_}
 use lib.ListN.{length, getD, take, drop}
-use lib.Signed.{_≤ℤ_, leZ, ltZ}
+use lib.Signed.{leZ, ltZ}
 use mir.Syntax.{w32}
 use mir.Val.{SFits, sel, toZ, ofZ}
 use Rattle.laws.specs.Lists.{every}
@@ -29,7 +29,7 @@ use Rattle.laws.proofs.Tests.{clash, cases, and-true, true-and}
 use Rattle.laws.proofs.Ints.{up, dn, sum, neg-up, neg-dn, is-le, is-lt, lt-true, fits, fitted, signed}
 use Rattle.entries.specs.Mark.{mark, marked}
 use Rattle.entries.specs.Possible.{maxProduct, possibleAfter}
-use Rattle.impossible.specs.Near.{moved, isNear, nearness}
+use Rattle.impossible.specs.Near.{moved, isNear, Fitting, nearness}
 use Rattle.entries.proofs.Possible.{is-fair}
 
 -- the bits of four more
@@ -45,7 +45,7 @@ module _ (gap near : ℤ) where
   lower : (e : ℤ) → up (e -ℤ gap) + (dn e + up gap) ≡ dn (e -ℤ gap) + (up e + dn gap)
   lower e = omega (arith, sum e (negℤ gap), neg-up gap, neg-dn gap)
 
-  pub moved-fits : (pos 0 ≤ℤ near) × (near ≤ℤ pos 1048576) × (near ≤ℤ gap) × (gap ≤ℤ pos 1073741825) → (e : ℤ) → SFits w32 e → SFits w32 (moved gap near e)
+  pub moved-fits : Fitting gap near → (e : ℤ) → SFits w32 e → SFits w32 (moved gap near e)
   moved-fits h e f =
       cases (marked e)
       (λ t. rw t (fits w32 _ (omega (signed, fitted w32 e f, lower e, sum (e -ℤ gap) near))))
@@ -116,8 +116,7 @@ nearness-bounds : (k : ℕ) → (131072 ≤ nearness k) × (nearness k ≤ 10485
 nearness-bounds k = cases (ltb k 5) (λ t. rw t (omega arith)) (λ t. rw t (omega arith))
 
 -- what the code asks of the nearness, and of the gap beside it
-pub asked : (k : ℕ) → k ≤ 9 → let near = pos (nearness k) in let gap = mark (k + 1) -ℤ near in
-    (pos 0 ≤ℤ near) × (near ≤ℤ pos 1048576) × (near ≤ℤ gap) × (gap ≤ℤ pos 1073741825)
+pub asked : (k : ℕ) → k ≤ 9 → let near = pos (nearness k) in Fitting (mark (k + 1) -ℤ near) near
 asked k few = omega (signed, nearness-bounds k, gap-parts k (nearness k))
 
 -- what was found of four parts that are near, and of what is left over

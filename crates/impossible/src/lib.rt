@@ -10,7 +10,7 @@ ghost use Rattle.checks.specs.Search.{firstPlace};
 ghost use Rattle.entries.specs.Mark.{mark};
 ghost use Rattle.entries.specs.Possible.{possibleAfter};
 ghost use Rattle.impossible.specs.Near as Def;
-ghost use Rattle.impossible.specs.Near.{isNear};
+ghost use Rattle.impossible.specs.Near.{isNear, Fitting};
 use checks::Found;
 use entries::MARK;
 use entries::is_possible;
@@ -32,7 +32,7 @@ fn each_possible(sums: &[i32], k: usize) -> bool
 
 // An entry counted from `near` below 0, with marks moved down by a gap.
 fn moved(entry: i32, gap: i32, near: i32) -> i32
-    requires { ⌜ (pos 0 ≤ℤ near) × (near ≤ℤ pos 1048576) × (near ≤ℤ gap) × (gap ≤ℤ pos 1073741825) ⌝ }
+    requires { ⌜ Fitting gap near ⌝ }
     ensures { λ r. ⌜ r ≡ Def.moved gap near entry ⌝ }
 {
     lowered(entry, gap) + near
@@ -40,7 +40,7 @@ fn moved(entry: i32, gap: i32, near: i32) -> i32
 
 // Whether all four parts, of one length, are near: all their bits together are. Four at once take less time than one place after the other.
 fn four_near(a: &[i32], b: &[i32], c: &[i32], d: &[i32], gap: i32, near: i32) -> bool
-    requires { ⌜ (pos 0 ≤ℤ near) × (near ≤ℤ pos 1048576) × (near ≤ℤ gap) × (gap ≤ℤ pos 1073741825) ⌝ }
+    requires { ⌜ Fitting gap near ⌝ }
     requires { ⌜ (length (now b) ≡ length (now a)) × (length (now c) ≡ length (now a)) × (length (now d) ≡ length (now a)) ⌝ }
     ensures { λ r. ⌜ (r ≡ true → every (isNear gap near) (now (a .entry)) && every (isNear gap near) (now (b .entry)) && (every (isNear gap near) (now (c .entry)) && every (isNear gap near) (now (d .entry))) ≡ true) ⌝ }
 {

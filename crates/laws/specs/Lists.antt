@@ -9,6 +9,11 @@ unfoldable pub each : {A : Type 0} → (ℕ → A) → ℕ → List A
 each f zero = []
 each f (suc n) = each f n ++ (f n ∷ [])
 
+-- a, a + 1, .. a + n − 1
+abbrev pub upFrom : ℕ → ℕ → List ℕ
+upFrom a zero = []
+upFrom a (suc n) = a ∷ upFrom (suc a) n
+
 -- whether the test holds of every element
 unfoldable pub every : {A : Type 0} → (A → Bool) → List A → Bool
 every test [] = true

@@ -5,29 +5,29 @@ ghost use Prim.Native.Nat.{_≤_, _<_};
 ghost use lib.ListN.{length};
 ghost use Rattle.laws.specs.Lists.{every, over};
 ghost use Rattle.settings.specs.Settings.{weightInRange, thresholdInRange, maxSamples, inRange};
-ghost use Rattle.entries.specs.Mark.{mark};
 ghost use Rattle.readings.specs.Readings.{readingInRange};
 ghost use Rattle.entries.specs.Range.{entryInRange};
-ghost use Rattle.step.specs.Step.{isAbove, base, stepFrom, step};
+ghost use Rattle.step.specs.Step.{stepBy, step};
 ghost use Rattle.sums.specs.Feed.{sumsAfter};
 ghost use Rattle.ramp.specs.Requires.{Feedable};
 use numbers::least;
 use settings::Settings;
+use step::Sample;
 use step::stepped;
 
-// Readings of sample n, and the entries of their pixels, with the weight and the threshold at hand.
-fn feed_part(readings: &[u16], sums: &mut [i32], n: usize, weight: i32, threshold: u16)
+// Readings of one sample, and the entries of their pixels.
+fn feed_part(readings: &[u16], sums: &mut [i32], sample: Sample)
     requires { ⌜ length (now readings) ≡ length (now sums) ⌝ }
-    requires { ⌜ (1 ≤ n) × (n ≤ maxSamples) ⌝ }
-    requires { ⌜ weightInRange weight ≡ true ⌝ }
-    requires { ⌜ thresholdInRange threshold ≡ true ⌝ }
+    requires { ⌜ (1 ≤ sample .n) × (sample .n ≤ maxSamples) ⌝ }
+    requires { ⌜ weightInRange (sample .weight) ≡ true ⌝ }
+    requires { ⌜ thresholdInRange (sample .threshold) ≡ true ⌝ }
     requires { ⌜ every readingInRange (now readings) ≡ true ⌝ }
-    requires { ⌜ (1 < n → every entryInRange (now sums) ≡ true) ⌝ }
-    ensures { λ r. ⌜ now (sums .exit) ≡ over (λ x e. stepFrom weight (isAbove threshold x) (mark n) (base n e) x) (now (readings .entry)) (now (sums .entry)) ⌝ }
+    requires { ⌜ (1 < sample .n → every entryInRange (now sums) ≡ true) ⌝ }
+    ensures { λ r. ⌜ now (sums .exit) ≡ over (stepBy sample) (now (readings .entry)) (now (sums .entry)) ⌝ }
 {
     let mut i = 0;
     while i < sums.len() {
-        sums[i] = stepped(sums[i], readings[i], n, weight, threshold);
+        sums[i] = stepped(sums[i], readings[i], sample);
         i += 1;
     }
 }
@@ -43,7 +43,15 @@ fn feed_sample(readings: &[u16], sums: &mut [i32], n: usize, settings: Settings)
 {
     let weight = settings.weight(n);
     let threshold = settings.threshold;
-    feed_part(readings, sums, n, weight, threshold);
+    feed_part(
+        readings,
+        sums,
+        Sample {
+            n: n,
+            weight: weight,
+            threshold: threshold,
+        },
+    );
 }
 
 // Feed: sample by sample, each over the part of the sums that its readings reach.

@@ -3,14 +3,15 @@
 --     weight-below                 a weight's field is one of nine
 --     field-apart                  two bits have two fields
 --     width-small, place-small     where a field stands is a small number
---     high-bits                    a map has nothing above its fields' bits exactly where none of the bits 12 to 15 stands
-use Prim.Native.Nat.{ℕ, zero, suc, _+_, _*_, _/_, _%_, _^_, _≤_, _<_}
+--     high-bits                    a map has nothing above its fields' bits exactly where none of the bits without one stands
+use Prim.Native.Nat.{ℕ, zero, suc, _+_, _-_, _*_, _/_, _%_, _^_, _≤_, _<_}
 use mathlib.Core.Bool.{not, _||_}
 use mathlib.Core.Path.{_≡_, refl, sym, ap, subst, _∙_}
+use native.Mathlib.Nat.{add-zero, add-suc, suc-add, div-eq-of-lt, div-div-eq-div-mul, pow-suc}
 use native.Mathlib.Omega.{arith}
 use borrow.Author.Tests.{ltb-true, ltb-false, eqb-true, eqb-false, eq-eqb, ne-eqb}
 use lib.Dec.{ltb, eqb}
-use Rattle.laws.specs.Lists.{anyOf}
+use Rattle.laws.specs.Lists.{upFrom, anyOf}
 use Rattle.laws.proofs.Tests.{cases}
 use Rattle.record.specs.declared.Field.{Field}
 use Rattle.record.specs.declared.Field.the-variants.{Weight, Threshold, Truncation, Samples}
@@ -72,11 +73,13 @@ lowest-or-more n =
     (λ f. rw (e, f, eq-eqb n 0 (omega (arith, eqb-false (n % 2) 1 e, eqb-true (n / 2) 0 f))))
     (λ f. rw (e, f, ne-eqb n 0 (λ z. eqb-false (n / 2) 0 f (omega arith)))))
 
-pub high-bits : (map : ℕ) → map < 2 ^ 16 → not (eqb (map / 2 ^ fieldCount) 0) ≡ unknownBit map
+-- a number of n + m bits, with those from bit n up
+bits-from : (map n m : ℕ) → map < 2 ^ (n + m) → not (eqb (map / 2 ^ n) 0) ≡ anyOf (stands map) (upFrom n m)
 unfolding anyOf stands
-high-bits map h =
-    let a : map / 2 ^ 12 / 2 ≡ map / 2 ^ 13 = omega arith in
-    let b : map / 2 ^ 13 / 2 ≡ map / 2 ^ 14 = omega arith in
-    let c : map / 2 ^ 14 / 2 ≡ map / 2 ^ 15 = omega arith in
-    let d : map / 2 ^ 15 / 2 ≡ 0 = omega arith in
-    rw (lowest-or-more (map / 2 ^ 12), a, lowest-or-more (map / 2 ^ 13), b, lowest-or-more (map / 2 ^ 14), c, lowest-or-more (map / 2 ^ 15), d)
+bits-from map n zero h = rw (div-eq-of-lt (rw add-zero at h))
+bits-from map n (suc m) h =
+    let e : map / 2 ^ n / 2 ≡ map / 2 ^ suc n = div-div-eq-div-mul map (2 ^ n) 2 ∙ rw (pow-suc) in
+    rw (lowest-or-more (map / 2 ^ n), e, bits-from map (suc n) m (rw (suc-add, ← add-suc) h))
+
+pub high-bits : (map : ℕ) → map < 2 ^ 16 → not (eqb (map / 2 ^ fieldCount) 0) ≡ unknownBit map
+high-bits map h = bits-from map fieldCount (16 - fieldCount) h

@@ -1,11 +1,11 @@
 -- The update record: a map of two bytes, low byte first, and then the fields whose bits stand in it, from the lowest bit up.
-use Prim.Native.Nat.{ℕ, zero, suc, _+_, _*_, _/_, _%_, _^_}
+use Prim.Native.Nat.{ℕ, zero, suc, _+_, _-_, _*_, _/_, _%_, _^_}
 use mathlib.Core.Bool.{Bool, cond}
-use mathlib.Core.List.{List, [], _∷_}
+use mathlib.Core.List.{List}
 use lib.Dec.{ltb, eqb}
 use lib.IntN.{ℤ, pos, negℤ}
 use lib.ListN.{getD}
-use Rattle.laws.specs.Lists.{anyOf}
+use Rattle.laws.specs.Lists.{upFrom, anyOf}
 use Rattle.record.specs.declared.Field.{Field}
 use Rattle.record.specs.declared.Field.the-variants.{Weight, Threshold, Truncation, Samples}
 
@@ -24,9 +24,9 @@ mapOf bytes = pairAt bytes 0
 abbrev pub fieldCount : ℕ
 fieldCount = 12
 
--- whether a map bit from 12 to 15 stands
+-- whether a map bit that has no field stands: one from 12 to 15
 abbrev pub unknownBit : ℕ → Bool
-unknownBit map = anyOf (stands map) (12 ∷ 13 ∷ 14 ∷ 15 ∷ [])
+unknownBit map = anyOf (stands map) (upFrom fieldCount (16 - fieldCount))
 
 -- bits 0 to 8 are for weights 1 to 9 (`Weight i` is weight i + 1), bit 9 for the threshold, 10 for r and 11 for N (and any above it, which has no field)
 unfoldable pub fieldOf : ℕ → Field

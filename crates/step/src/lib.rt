@@ -4,12 +4,18 @@ ghost use mathlib.Core.Bool.{true, cond};
 ghost use Prim.Native.Nat.{_≤_, _<_};
 ghost use lib.IntN.{pos, natAbs, _*ℤ_};
 ghost use Rattle.settings.specs.Settings.{weightInRange, thresholdInRange, maxSamples};
-ghost use Rattle.entries.specs.Mark.{mark};
 ghost use Rattle.readings.specs.Readings.{readingInRange};
 ghost use Rattle.entries.specs.Range.{entryInRange};
 ghost use Rattle.step.specs.Step as Def;
-ghost use Rattle.step.specs.Step.{isAbove, stepFrom};
+ghost use Rattle.step.specs.Step.{isAbove, stepFrom, stepBy};
 use entries::MARK;
+
+// A sample of a ramp: its number, counted from 1, its weight, and the threshold that its readings are held against.
+pub struct Sample {
+    pub n: usize,
+    pub weight: i32,
+    pub threshold: u16,
+}
 
 // What sample n adds to: 128 at sample 1, else the entry.
 fn base(entry: i32, n: usize) -> i32
@@ -78,13 +84,20 @@ fn step_from(entry: i32, reading: u16, weight: i32, threshold: u16, mark: i32) -
 }
 
 // The entry after a reading of sample n.
-pub fn stepped(entry: i32, reading: u16, n: usize, weight: i32, threshold: u16) -> i32
-    requires { ⌜ (1 ≤ n) × (n ≤ maxSamples) ⌝ }
-    requires { ⌜ weightInRange weight ≡ true ⌝ }
-    requires { ⌜ thresholdInRange threshold ≡ true ⌝ }
+pub fn stepped(entry: i32, reading: u16, sample: Sample) -> i32
+    requires { ⌜ (1 ≤ sample .n) × (sample .n ≤ maxSamples) ⌝ }
+    requires { ⌜ weightInRange (sample .weight) ≡ true ⌝ }
+    requires { ⌜ thresholdInRange (sample .threshold) ≡ true ⌝ }
     requires { ⌜ readingInRange reading ≡ true ⌝ }
-    requires { ⌜ (1 < n → entryInRange entry ≡ true) ⌝ }
-    ensures { λ r. ⌜ r ≡ stepFrom weight (isAbove threshold reading) (mark n) (Def.base n entry) reading ⌝ }
+    requires { ⌜ (1 < sample .n → entryInRange entry ≡ true) ⌝ }
+    ensures { λ r. ⌜ r ≡ stepBy sample reading entry ⌝ }
 {
-    step_from(base(entry, n), reading, weight, threshold, MARK + n as i32)
+    let n = sample.n;
+    step_from(
+        base(entry, n),
+        reading,
+        sample.weight,
+        sample.threshold,
+        MARK + n as i32,
+    )
 }

@@ -19,7 +19,8 @@ use Rattle.checks.proofs.Laws.{verdict-each, both-taken, verdict-rest, when-tak
 use Rattle.record.specs.declared.Field.{Field}
 use Rattle.record.specs.declared.Field.the-variants.{Weight, Threshold, Truncation, Samples}
 use Rattle.settings.specs.declared.Settings.{Settings}
-use Rattle.settings.specs.Settings.{weightInRange, maxSamples, weightsInRange, thresholdInRange, truncationInRange, samplesInRange, inRange}
+use Rattle.settings.specs.Settings.{weightInRange, maxSamples, weightsInRange, inRange}
+use Rattle.settings.proofs.Parts.{Fields, fields-of, of-fields}
 use Rattle.record.specs.Record.{stands, mapOf, fieldCount, fieldOf, numberOf, weightOf}
 use Rattle.fields.specs.Fields.{checkOf, fieldCheck, withField, withBit, withBits, resulting}
 use Rattle.update.specs.Update.{updateChecks, updateOf}
@@ -32,25 +33,6 @@ weight-in-range : (b : ℕ) → weightInRange (weightOf b) ≡ true
 unfolding weightOf
 weight-in-range b =
     cases (stands b 4) (λ e. rw e (size-in-range (b % 16) (omega arith))) (λ e. rw e (le-leb (b % 16) 15 (omega arith)))
-
--- each field in the range that its check asks for
-record Fields (s : Settings) : Type 0 where
-  pub weights : weightsInRange (s .weights) ≡ true
-  pub threshold : thresholdInRange (s .threshold) ≡ true
-  pub truncation : truncationInRange (s .truncation) ≡ true
-  pub samples : samplesInRange (s .samples) ≡ true
-
-fields-of : (s : Settings) → inRange s ≡ true → Fields s
-unfolding inRange
-fields-of s e =
-    let a = and-true _ _ e in
-    let b = and-true _ _ (a .0) in
-    let c = and-true _ _ (b .0) in
-    record { weights = c .0; threshold = c .1; truncation = b .1; samples = a .1 }
-
-of-fields : (s : Settings) → Fields s → inRange s ≡ true
-unfolding inRange
-of-fields s p = rw (p .weights, p .threshold, p .truncation, p .samples)
 
 -- one weight written
 weights-kept : (ws : List ℤ) (i b : ℕ) → weightsInRange ws ≡ true → weightsInRange (set ws i (weightOf b)) ≡ true

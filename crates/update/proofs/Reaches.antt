@@ -21,7 +21,7 @@ use Rattle.record.specs.declared.Field.the-variants.{Threshold, Truncation, Sam
 use Rattle.settings.specs.declared.Settings.{Settings}
 use Rattle.settings.specs.Settings.{weightInRange, inRange}
 use Rattle.record.specs.Record.{stands, fieldCount, fieldOf, placeOf, numberAt, numberOf, weightOf}
-use Rattle.fields.specs.Fields.{checkOf, fieldCheck, resulting}
+use Rattle.fields.specs.Fields.{checkOf, fieldCheck, fieldChecks, resulting}
 use Rattle.update.specs.Update.{updateChecks, updateOf}
 use Rattle.update.specs.Laws.{valueIn, meantBy, taken}
 use Rattle.record.proofs.Fields.{field-cases}
@@ -133,7 +133,7 @@ module _ (s : Settings) (p : InRange s) where
       (true-and (every-made (λ b. ltb b 256) weightByte 9 (λ i h. lt-ltb (weightByte i) 256 (omega (arith, weight-code i .small))))
       (rw (lt-ltb (s .threshold % 256) 256 (omega arith), lt-ltb (s .threshold / 256) 256 (omega arith), lt-ltb (s .truncation) 256 (omega arith), lt-ltb (s .samples) 256 (omega arith))))
 
-  none-refused : verdict (each (fieldCheck bytes) fieldCount) ≡ Taken
+  none-refused : verdict (fieldChecks bytes) ≡ Taken
   none-refused = verdict-none (fieldCheck bytes) fieldCount (λ bit h. rw (every-stands bit h) (right bit h .fine))
 
   is-taken : verdict (updateChecks bytes) ≡ Taken

@@ -4,12 +4,11 @@ use mathlib.Core.Bool.{not}
 use mathlib.Core.List.{List, _∷_}
 use lib.Dec.{ltb, eqb}
 use lib.ListN.{length}
-use Rattle.laws.specs.Lists.{each}
 use Rattle.checks.specs.declared.Answer.{Answer}
 use Rattle.checks.specs.Checks.{when, verdict, byAnswer}
 use Rattle.record.specs.Record.{mapOf, fieldCount, unknownBit, placeOf}
 use Rattle.settings.specs.declared.Settings.{Settings}
-use Rattle.fields.specs.Fields.{fieldCheck}
+use Rattle.fields.specs.Fields.{fieldChecks}
 pub use Rattle.fields.specs.Fields.{resulting}
 use Rattle.update.specs.declared.Updated.{Updated}
 
@@ -19,7 +18,7 @@ updateChecks bytes =
     when (ltb (length bytes) 2) 2
     ∷ when (unknownBit (mapOf bytes)) 3
     ∷ when (not (eqb (length bytes) (placeOf (mapOf bytes) fieldCount))) 4
-    ∷ each (fieldCheck bytes) fieldCount
+    ∷ fieldChecks bytes
 
 -- taken whole, or not at all
 unfoldable pub updateOf : Settings → List ℕ → Updated

@@ -4,13 +4,13 @@ use native.Mathlib.Omega.{arith}
 use borrow.Author.Needs.{needs}
 use lib.IntN.{ℤ, pos}
 use lib.ListN.{length, getD}
-use lib.Signed.{_≤ℤ_}
 use denote.Ref.{now}
 use mir.Syntax.{w32}
 use mir.Val.{toZ, ofZ}
 use mir.Facts.{toZ-ofZ}
 use Rattle.laws.proofs.Tests.{true-and}
 use Rattle.laws.proofs.Ints.{back, sum, fits, signed}
+use Rattle.impossible.specs.Near.{Fitting}
 use Rattle.impossible.proofs.Near.{Bound, together, bound-more, bound-near}
 use Rattle.impossible.proofs.four_near.Statement.{statement}
 use Rattle.impossible.proofs.four_near.Tie as tie
@@ -27,8 +27,7 @@ loop-holds : tie.Need-loop-holds Inv-loop μ-loop
 loop-holds c = (omega arith, λ j h. absurd (omega arith), λ j h. absurd (omega arith), λ j h. absurd (omega arith), λ j h. absurd (omega arith))
 
 -- what the calls ask of the gap and the nearness
-asked : (s : tie.Start Inv-loop μ-loop) → let near = toZ w32 (ofZ w32 (s .args .near)) in let gap = toZ w32 (ofZ w32 (s .args .gap)) in
-    (pos 0 ≤ℤ near) × (near ≤ℤ pos 1048576) × (near ≤ℤ gap) × (gap ≤ℤ pos 1073741825)
+asked : (s : tie.Start Inv-loop μ-loop) → Fitting (toZ w32 (ofZ w32 (s .args .gap))) (toZ w32 (ofZ w32 (s .args .near)))
 asked s = rw (toZ-ofZ (s .fits .near), toZ-ofZ (s .fits .gap)) (s .pre .0)
 
 loop-again : tie.Need-loop-again Inv-loop μ-loop

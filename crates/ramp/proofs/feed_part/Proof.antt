@@ -1,10 +1,11 @@
 -- `ramp::feed_part` meets its contract. After i turns the sums are `over` the first i readings.
 use mathlib.Core.Path.{_≡_, _∙_}
-use Prim.Native.Nat.{ℕ, _≤_, _-_}
+use Prim.Native.Nat.{ℕ, _+_, _≤_, _<_, _-_}
+use mathlib.Core.List.{List}
 use native.Mathlib.Omega.{arith}
 use borrow.Author.Needs.{needs}
 use lib.IntN.{ℤ, pos}
-use lib.ListN.{length, take, getD, length-set}
+use lib.ListN.{length, take, getD, set, length-set}
 use lib.Seq.{take-all}
 use denote.Ref.{now}
 use mir.Syntax.{w32}
@@ -14,22 +15,18 @@ use Rattle.laws.specs.Lists.{over}
 use Rattle.laws.proofs.Ints.{back}
 use Rattle.laws.proofs.Every.{every-at}
 use Rattle.laws.proofs.Over.{over-at, over-more}
-use Rattle.entries.specs.Mark.{mark}
 use Rattle.readings.specs.Readings.{readingInRange}
 use Rattle.entries.specs.Range.{entryInRange}
-use Rattle.step.specs.Step.{isAbove, base, stepFrom}
+use Rattle.step.specs.Step.{stepBy}
 use Rattle.ramp.proofs.feed_part.Statement.{statement}
 use Rattle.ramp.proofs.feed_part.Tie as tie
 
-abbrev stepBy : ℕ → ℤ → ℕ → ℕ → ℤ → ℤ
-stepBy n weight threshold x e = stepFrom weight (isAbove threshold x) (mark n) (base n e) x
-
 abbrev Inv-loop : tie.InvT-loop
-Inv-loop readings sums₀ n weight threshold i₀ sums i =
-    (i ≤ length readings) × (length sums ≡ length sums₀) × (sums ≡ over (stepBy n (toZ w32 weight) threshold) (take i readings) sums₀)
+Inv-loop readings sums₀ sample i₀ sums i =
+    (i ≤ length readings) × (length sums ≡ length sums₀) × (sums ≡ over (stepBy sample) (take i readings) sums₀)
 
 abbrev μ-loop : tie.MeasureT-loop
-μ-loop readings sums₀ n weight threshold i₀ sums i = length sums₀ - i
+μ-loop readings sums₀ sample i₀ sums i = length sums₀ - i
 
 loop-holds : tie.Need-loop-holds Inv-loop μ-loop
 unfolding over
@@ -41,7 +38,7 @@ stepped-requires c κs =
     let s = c .before .before .before .before .before in
     let a = s .args in
     let h = s .pre .1 in
-    simp (toZ-ofZ, s .fits .weight, back w32 (getD (l .sums) (l .i) (pos 0)) (c .before .stepped-arg .given)) (
+    rw (back w32 (getD (l .sums) (l .i) (pos 0)) (c .before .stepped-arg .given)) (
       h .0,
       (
         h .1 .0,
@@ -55,22 +52,25 @@ stepped-requires c κs =
       ),
     )
 
+-- one turn, on plain values
+turn : (f : ℕ → ℤ → ℤ) (xs : List ℕ) (ss sums : List ℤ) (i : ℕ) (v : ℤ) → sums ≡ over f (take i xs) ss → v ≡ f (getD xs i 0) (getD sums i (pos 0)) → i < length xs
+    → set sums i v ≡ over f (take (i + 1) xs) ss
+turn f xs ss sums i v p q h = rw (q, p, over-at f xs ss i (pos 0)) (over-more f xs ss i 0 (pos 0) h)
+
 loop-again : tie.Need-loop-again Inv-loop μ-loop
 loop-again c =
     let l = c .before .before .before .before .loop in
     let a = c .before .before .before .before .before .before .args in
-    let f = stepBy (a .n) (toZ w32 (ofZ w32 (a .weight))) (a .threshold) in
+    let f = stepBy (a .sample) in
     let was = back w32 (getD (l .sums) (l .i) (pos 0)) (c .before .before .stepped-arg .given) in
     let is = back w32 (c .stepped .result) (c .stepped .ok) in
-    let at = over-at f (now (a .readings)) (now (a .sums)) (l .i) (pos 0) in
-    let more = over-more f (now (a .readings)) (now (a .sums)) (l .i) 0 (pos 0) (omega arith) in
-    (omega arith, simp length-set (l .inv .1), cc)
+    (omega arith, simp length-set (l .inv .1), turn f (now (a .readings)) (now (a .sums)) (l .sums) (l .i) _ (l .inv .2) (is ∙ rw was at (c .stepped .ensures)) (omega arith))
 
 returns : tie.Need-returns Inv-loop μ-loop
 returns c =
     let s = c .before .before .before in
     let l = c .before .loop in
-    l .inv .2 ∙ simp (toZ-ofZ, s .fits .weight, take-all (l .i) (now (s .args .readings)) (omega arith))
+    l .inv .2 ∙ rw (take-all (l .i) (now (s .args .readings)) (omega arith))
 
 pub feed-part-spec : {M : Type 1} → statement M
 feed-part-spec =
