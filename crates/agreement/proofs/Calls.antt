@@ -10,10 +10,10 @@ use Rattle.checks.specs.declared.Answer.the-variants.{Taken}
 use Rattle.checks.specs.Checks.{first, verdict}
 use Rattle.checks.proofs.Laws.{both-taken}
 use Rattle.board.specs.declared.Board.{Board}
-use Rattle.control.specs.declared.Coverage.the-variants.{Covered}
+use Rattle.board.specs.declared.Coverage.the-variants.{Covered}
 use Rattle.board.specs.Open.{openOf}
-use Rattle.feed.specs.Feed.{fedSums}
-use Rattle.control.specs.Covered.{coverageOf}
+use Rattle.operations.specs.Feed.{fedSums}
+use Rattle.operations.specs.Covered.{coverageOf}
 use Rattle.history.specs.Calls.{Call, update, start, feed, readOut, Ledger, fresh, viewOf, refusal, next, moments}
 use Rattle.history.specs.Readings.{frameFrom}
 use Rattle.history.specs.Demands.{Every, played, Demand1, FrameClaim}

@@ -23,11 +23,11 @@ use Rattle.sums.proofs.Agrees.{agrees-none}
 use Rattle.sums.proofs.Honest.{never-damaged}
 use Rattle.board.specs.declared.Board.{Board}
 use Rattle.board.specs.Board.{wanted}
-use Rattle.feed.specs.Feed.{feedChecks, feedOf, fedSums}
-use Rattle.read_out.specs.ReadOut.{readOutChecks, readOutOf, readOutWords}
+use Rattle.operations.specs.Feed.{feedChecks, feedOf, fedSums}
+use Rattle.operations.specs.ReadOut.{readOutChecks, readOutOf, readOutWords}
 use Rattle.board.proofs.Soundness.{sound-parts, sides-of}
-use Rattle.feed.proofs.Checked.{feed-taken, feed-passes}
-use Rattle.read_out.proofs.Checked.{read-out-taken}
+use Rattle.operations.proofs.FeedChecked.{feed-taken, feed-passes}
+use Rattle.operations.proofs.ReadOutChecked.{read-out-taken}
 use Rattle.history.specs.Demands.{joined}
 use Rattle.begin.specs.Begun.{started, begun}
 use Rattle.begin.proofs.Beginning.{begun-sound, started-unfed}

@@ -6,9 +6,9 @@ use mathlib.Core.Path.{_≡_}
 use lib.IntN.{ℤ}
 use lib.ListN.{length}
 use Rattle.checks.specs.declared.Answer.the-variants.{Taken}
-use Rattle.control.specs.declared.Coverage.the-variants.{Covered}
+use Rattle.board.specs.declared.Coverage.the-variants.{Covered}
 use Rattle.board.specs.Board.{wanted}
-use Rattle.control.specs.Covered.{coverageOf}
+use Rattle.operations.specs.Covered.{coverageOf}
 use Rattle.history.specs.Calls.{update, start, feed, Ledger, fresh, viewOf, next}
 use Rattle.history.specs.Readings.{frameFrom}
 use Rattle.history.specs.Demands.{FrameClaim, joined}

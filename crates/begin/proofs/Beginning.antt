@@ -15,11 +15,11 @@ use Rattle.checks.proofs.Laws.{verdict-append, both-taken}
 use Rattle.board.specs.declared.Board.{Board}
 use Rattle.board.specs.Board.{area, sidesTaken, sound, opened}
 use Rattle.board.specs.Open.{noBoard, openOf}
-use Rattle.control.specs.Update.{updateOf}
-use Rattle.control.specs.Ramp.{startOf}
+use Rattle.operations.specs.Update.{updateOf}
+use Rattle.operations.specs.Ramp.{startOf}
 use Rattle.board.proofs.Soundness.{sound-parts}
 use Rattle.board.proofs.Laws as BoardLaws
-use Rattle.control.proofs.Laws as ControlLaws
+use Rattle.operations.proofs.Laws as OperationLaws
 use Rattle.begin.specs.Begun.{updated, started, begun}
 
 unfed : (a : Answer) (new old : Board) → new .fed ≡ 0 → old .fed ≡ 0 → byAnswer a new old .fed ≡ 0
@@ -38,8 +38,8 @@ module _ (w h : ℕ) (binned : Bool) (bytes : List ℕ) where
   pub begun-sound : begun w h binned bytes .answer ≡ Taken → sound (started w h binned bytes .board) ≡ true
   unfolding verdict
   begun-sound t =
-      ControlLaws.laws .stays-sound .start (updated w h binned bytes .board)
-      ∙ ControlLaws.laws .stays-sound .update (openOf w h binned .board) bytes
+      OperationLaws.laws .stays-sound .start (updated w h binned bytes .board)
+      ∙ OperationLaws.laws .stays-sound .update (openOf w h binned .board) bytes
       ∙ BoardLaws.laws .opened-sound w h binned (both-taken (openOf w h binned .answer) _ t .0)
 
   pub begun-sides : begun w h binned bytes .answer ≡ Taken

@@ -5,8 +5,8 @@ use mathlib.Core.List.{List, [], _∷_}
 use Rattle.checks.specs.Checks.{verdict}
 use Rattle.board.specs.declared.Outcome.{Outcome}
 use Rattle.board.specs.Open.{openOf}
-use Rattle.control.specs.Update.{updateOf}
-use Rattle.control.specs.Ramp.{startOf}
+use Rattle.operations.specs.Update.{updateOf}
+use Rattle.operations.specs.Ramp.{startOf}
 
 abbrev pub updated : ℕ → ℕ → Bool → List ℕ → Outcome
 updated width height binned bytes = updateOf (openOf width height binned .board) bytes

@@ -1,5 +1,6 @@
 // A ramp board: its sides, its settings and the ramp that runs.
 use checks::Answer;
+use checks::Refusal;
 use settings::Settings;
 
 pub mod changes;
@@ -22,4 +23,11 @@ pub struct Board {
 pub struct Outcome {
     pub answer: Answer,
     pub board: Board,
+}
+
+// What Covered says of the settings in force.
+pub enum Coverage {
+    Covered,
+    Uncovered,
+    Refused(Refusal),
 }

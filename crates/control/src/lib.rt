@@ -1,20 +1,14 @@
 // The operations that are lent no buffer of a ramp: Update, Start, Drop, Covered.
 ghost use mathlib.Core.Path.{_≡_};
-ghost use Rattle.control.specs.Update.{updateOf};
-ghost use Rattle.control.specs.Ramp.{startOf, dropOf};
-ghost use Rattle.control.specs.Covered.{coverageOf};
+ghost use Rattle.operations.specs.Update.{updateOf};
+ghost use Rattle.operations.specs.Ramp.{startOf, dropOf};
+ghost use Rattle.operations.specs.Covered.{coverageOf};
 use board::Board;
+use board::Coverage;
 use board::Outcome;
 use board::changes::leaves;
 use checks::Answer;
 use checks::Refusal;
-
-// What Covered says of the settings in force.
-pub enum Coverage {
-    Covered,
-    Uncovered,
-    Refused(Refusal),
-}
 
 // Update: the record's fields go into the waiting settings.
 pub fn update(board: Board, bytes: &[u8]) -> Outcome

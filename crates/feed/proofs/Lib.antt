@@ -1,3 +1,2 @@
--- What the checks of Feed have shown, and its laws.
-pub mod Checked
-pub mod Laws
+-- What the passes of Feed require holds of a taken Feed.
+pub mod Feedable

@@ -1,6 +1,6 @@
 -- Demand 3's last sentence: Covered says "covered" exactly where no readings break the ceiling.
 use Rattle.sums.proofs.Laws.{laws}
-use Rattle.control.proofs.Says.{covered-is}
+use Rattle.operations.proofs.Says.{covered-is}
 use Rattle.history.specs.Demands.{CoveredExactly}
 
 pub covered-exactly : CoveredExactly

@@ -15,11 +15,11 @@ use Rattle.sums.proofs.Agrees.{agrees-full}
 use Rattle.encoding.specs.Word.{wordOf}
 use Rattle.encoding.specs.Frame.{wordAt, frameOf}
 use Rattle.encoding.proofs.Grid.{pixels-on, pixels-some}
-use Rattle.control.specs.declared.Coverage.the-variants.{Covered}
-use Rattle.read_out.specs.ReadOut.{readOutOf, readOutWords}
-use Rattle.control.specs.Covered.{coverageOf}
-use Rattle.control.proofs.Says.{covered-is}
-use Rattle.read_out.proofs.Checked.{ReadOutTaken, read-out-taken}
+use Rattle.board.specs.declared.Coverage.the-variants.{Covered}
+use Rattle.operations.specs.ReadOut.{readOutOf, readOutWords}
+use Rattle.operations.specs.Covered.{coverageOf}
+use Rattle.operations.proofs.Says.{covered-is}
+use Rattle.operations.proofs.ReadOutChecked.{ReadOutTaken, read-out-taken}
 use Rattle.history.specs.Calls.{readOut, Ledger, viewOf, refusal, Allowed}
 use Rattle.history.specs.Readings.{area, words, pixels, readingAt, frameFrom}
 use Rattle.history.specs.Demands.{FrameClaim}

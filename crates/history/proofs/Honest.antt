@@ -27,8 +27,8 @@ use Rattle.board.specs.declared.Board.{Board}
 use Rattle.board.specs.Board as Board
 use Rattle.board.specs.Board.{wanted, sound}
 use Rattle.board.specs.RampChecks.{rampChecks}
-use Rattle.feed.specs.Feed.{readingChecks}
-use Rattle.read_out.specs.ReadOut.{outputChecks}
+use Rattle.operations.specs.Feed.{readingChecks}
+use Rattle.operations.specs.ReadOut.{outputChecks}
 use Rattle.history.specs.Calls.{Call, update, start, feed, readOut, drop, covered, Ledger, viewOf, Allowed}
 use Rattle.history.specs.Readings.{area}
 use Rattle.history.specs.Demands.{NotDamaged}

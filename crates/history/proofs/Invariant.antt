@@ -20,9 +20,9 @@ use Rattle.readings.specs.Readings.{readingInRange}
 use Rattle.sums.proofs.Agrees.{Agrees, agrees-none, agrees-all}
 use Rattle.board.specs.Board.{sound}
 use Rattle.board.specs.Open.{openOf}
-use Rattle.feed.specs.Feed.{fedSums}
+use Rattle.operations.specs.Feed.{fedSums}
 use Rattle.board.proofs.Soundness.{Sound, Sides, sound-parts, sides-of, wanted-nine}
-use Rattle.feed.proofs.Checked.{feed-taken}
+use Rattle.operations.proofs.FeedChecked.{feed-taken}
 use Rattle.board.proofs.Laws.{laws}
 use Rattle.history.specs.Calls.{Call, update, start, feed, readOut, drop, covered, Ledger, fresh, viewOf, refusal, effect, refusedEffect, next, Allowed, anySums, afterTaken}
 use Rattle.history.specs.Readings.{area}

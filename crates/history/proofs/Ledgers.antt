@@ -13,17 +13,15 @@ use Rattle.checks.specs.declared.Answer.{Answer}
 use Rattle.checks.specs.declared.Answer.the-variants.{Taken, Refused}
 use Rattle.checks.specs.Checks.{verdict, byAnswer}
 use Rattle.board.specs.declared.Board.{Board}
-use Rattle.control.specs.declared.Coverage.the-variants.{Covered, Uncovered}
+use Rattle.board.specs.declared.Coverage.the-variants.{Covered, Uncovered}
 use Rattle.board.specs.Board.{sound}
 use Rattle.board.specs.Open.{openOf}
-use Rattle.control.specs.Update.{updateOf}
-use Rattle.control.specs.Ramp.{startOf, dropOf}
-use Rattle.feed.specs.Feed.{feedOf, fedSums}
-use Rattle.read_out.specs.ReadOut.{readOutOf, readOutWords}
-use Rattle.control.specs.Covered.{coveredChecks, orRefused, coverageOf}
-use Rattle.control.proofs.Laws.{laws}
-use Rattle.feed.proofs.Laws as FeedLaws
-use Rattle.read_out.proofs.Laws as ReadOutLaws
+use Rattle.operations.specs.Update.{updateOf}
+use Rattle.operations.specs.Ramp.{startOf, dropOf}
+use Rattle.operations.specs.Feed.{feedOf, fedSums}
+use Rattle.operations.specs.ReadOut.{readOutOf, readOutWords}
+use Rattle.operations.specs.Covered.{coveredChecks, orRefused, coverageOf}
+use Rattle.operations.proofs.Laws.{laws}
 use Rattle.history.specs.Calls.{Call, update, start, feed, readOut, drop, covered, Ledger, fresh, viewOf, refusal, effect, next, answerOf, outcomeOf}
 use Rattle.history.specs.Demands.{Gives}
 
@@ -76,7 +74,7 @@ gives-is ℓ covered = refl
 pub call-sound : (b : Board) (c : Call) → sound (outcomeOf b c .board) ≡ sound b
 call-sound b (update bytes) = laws .stays-sound .update b bytes
 call-sound b start = laws .stays-sound .start b
-call-sound b (feed xs sums) = FeedLaws.laws .stays-sound b xs sums
-call-sound b (readOut sums output) = ReadOutLaws.laws .stays-sound b sums output
+call-sound b (feed xs sums) = laws .stays-sound .feed b xs sums
+call-sound b (readOut sums output) = laws .stays-sound .read-out b sums output
 call-sound b drop = laws .stays-sound .drop b
 call-sound b covered = refl

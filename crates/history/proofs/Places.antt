@@ -29,13 +29,13 @@ use Rattle.encoding.specs.Frame.{wordCount}
 use Rattle.board.specs.declared.Board.{Board}
 use Rattle.board.specs.Board.{area, wanted, sound, unsound}
 use Rattle.board.specs.RampChecks.{rampChecks}
-use Rattle.control.specs.declared.Coverage.{Coverage}
-use Rattle.control.specs.declared.Coverage.the-variants.{Covered, Uncovered}
-use Rattle.control.specs.Update.{updateChecks, updateOf}
-use Rattle.control.specs.Ramp.{startChecks, startOf, dropChecks, dropOf}
-use Rattle.control.specs.Covered.{coveredChecks, orRefused, coverageOf}
-use Rattle.feed.specs.Feed.{readingChecks, feedChecks, feedOf}
-use Rattle.read_out.specs.ReadOut.{outputChecks, readOutChecks, readOutOf}
+use Rattle.board.specs.declared.Coverage.{Coverage}
+use Rattle.board.specs.declared.Coverage.the-variants.{Covered, Uncovered}
+use Rattle.operations.specs.Update.{updateChecks, updateOf}
+use Rattle.operations.specs.Ramp.{startChecks, startOf, dropChecks, dropOf}
+use Rattle.operations.specs.Covered.{coveredChecks, orRefused, coverageOf}
+use Rattle.operations.specs.Feed.{readingChecks, feedChecks, feedOf}
+use Rattle.operations.specs.ReadOut.{outputChecks, readOutChecks, readOutOf}
 use Rattle.history.specs.Calls.{Call, update, start, feed, readOut, drop, covered, answerOf, outcomeOf}
 use Rattle.history.specs.Demands.{Placed}
 

@@ -24,10 +24,10 @@ use Rattle.step.specs.Step.{step}
 use Rattle.sums.proofs.Feeding.{feed-length, feed-past}
 use Rattle.sums.proofs.Honest.{all-pass}
 use Rattle.board.specs.Board.{wanted}
-use Rattle.feed.specs.Feed.{fedSums}
+use Rattle.operations.specs.Feed.{fedSums}
 use Rattle.board.proofs.Checked.{RampTaken}
-use Rattle.feed.proofs.Checked.{feed-passes}
-use Rattle.read_out.proofs.Checked.{read-out-passes}
+use Rattle.operations.proofs.FeedChecked.{feed-passes}
+use Rattle.operations.proofs.ReadOutChecked.{read-out-passes}
 use Rattle.history.specs.Calls.{feed, readOut, Ledger, viewOf, refusal, effect, Allowed, afterTaken}
 use Rattle.history.specs.Readings.{area, words}
 use Rattle.history.proofs.Invariant.{Good, parts, sides, few, taken-good}

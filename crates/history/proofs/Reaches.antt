@@ -26,7 +26,7 @@ use Rattle.checks.specs.Checks.{verdict}
 use Rattle.readings.specs.Readings.{maxReading, readingInRange}
 use Rattle.board.specs.Board.{wanted}
 use Rattle.board.specs.Open.{openOf}
-use Rattle.control.proofs.Says.{says}
+use Rattle.operations.proofs.Says.{says}
 use Rattle.history.specs.Calls.{Call, update, start, feed, readOut, Ledger, fresh, viewOf, refusal, effect, Allowed, anySums, afterTaken, Moment, moments}
 use Rattle.history.specs.Readings.{words}
 use Rattle.history.specs.Demands.{ReadsOut, Some, fedBy, joined, passable, Reached}

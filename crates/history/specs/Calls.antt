@@ -13,13 +13,13 @@ use Rattle.checks.specs.declared.Answer.the-variants.{Taken, Refused}
 use Rattle.checks.specs.Checks.{verdict, byAnswer}
 use Rattle.board.specs.declared.Board.{Board}
 use Rattle.board.specs.declared.Outcome.{Outcome}
-use Rattle.control.specs.declared.Coverage.{Coverage}
-use Rattle.control.specs.declared.Coverage.the-variants as Coverage
-use Rattle.control.specs.Update.{updateChecks, updateOf}
-use Rattle.control.specs.Ramp.{startChecks, startOf, dropChecks, dropOf}
-use Rattle.feed.specs.Feed.{feedChecks, feedOf, fedSums}
-use Rattle.read_out.specs.ReadOut.{readOutChecks, readOutOf}
-use Rattle.control.specs.Covered.{coveredChecks, coverageOf}
+use Rattle.board.specs.declared.Coverage.{Coverage}
+use Rattle.board.specs.declared.Coverage.the-variants as Coverage
+use Rattle.operations.specs.Update.{updateChecks, updateOf}
+use Rattle.operations.specs.Ramp.{startChecks, startOf, dropChecks, dropOf}
+use Rattle.operations.specs.Feed.{feedChecks, feedOf, fedSums}
+use Rattle.operations.specs.ReadOut.{readOutChecks, readOutOf}
+use Rattle.operations.specs.Covered.{coveredChecks, coverageOf}
 
 -- a call, with everything it brings
 pub data Call : Type 0 where

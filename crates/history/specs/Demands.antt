@@ -25,12 +25,12 @@ use Rattle.encoding.specs.Frame.{frameOf}
 use Rattle.meaning.specs.Meaning.{readWord}
 use Rattle.encoding.specs.Meanings.{Between}
 use Rattle.board.specs.declared.Board.{Board}
-use Rattle.control.specs.declared.Coverage.the-variants.{Covered, Uncovered}
+use Rattle.board.specs.declared.Coverage.the-variants.{Covered, Uncovered}
 use Rattle.board.specs.Board.{sound}
 use Rattle.board.specs.Open.{openOf}
-use Rattle.feed.specs.Feed.{fedSums}
-use Rattle.read_out.specs.ReadOut.{readOutOf, readOutWords}
-use Rattle.control.specs.Covered.{orRefused, coverageOf}
+use Rattle.operations.specs.Feed.{fedSums}
+use Rattle.operations.specs.ReadOut.{readOutOf, readOutWords}
+use Rattle.operations.specs.Covered.{orRefused, coverageOf}
 use Rattle.history.specs.Calls.{Call, update, start, feed, readOut, drop, covered, Ledger, fresh, viewOf, refusal, next, outcomeOf, anySums, Moment, moments}
 use Rattle.history.specs.Readings.{area, words, pixels, exactSums, FirstOver, NeverOver, frameFrom}
 

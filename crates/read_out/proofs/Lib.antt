@@ -1,3 +1,2 @@
--- What the checks of Read out have shown, and its laws.
-pub mod Checked
-pub mod Laws
+-- What the passes of Read out require holds of a taken Read out.
+pub mod Readable

@@ -5,7 +5,7 @@ ghost use lib.ListN.{length};
 ghost use Rattle.checks.specs.Checks.{verdict};
 ghost use Rattle.encoding.specs.Frame.{wordCount};
 ghost use Rattle.board.specs.Board.{area, ofTakenSides, sound};
-ghost use Rattle.read_out.specs.ReadOut.{outputChecks, readOutChecks, readOutOf, readOutWords};
+ghost use Rattle.operations.specs.ReadOut.{outputChecks, readOutChecks, readOutOf, readOutWords};
 use board::Board;
 use board::Outcome;
 use checks::Answer;

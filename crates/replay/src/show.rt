@@ -7,9 +7,9 @@ use crate::print::signed;
 use crate::print::text;
 use crate::print::whole;
 use board::Board;
+use board::Coverage;
 use checks::Answer;
 use checks::Refusal;
-use control::Coverage;
 use meaning::WordRead;
 use settings::Settings;
 

@@ -21,10 +21,10 @@ use Rattle.encoding.specs.Word.{smallestMark, isNegative}
 use Rattle.encoding.specs.Frame.{pixelsOf, wordAt, frameOf}
 use Rattle.board.specs.Board.{sidesTaken, sound}
 use Rattle.board.specs.Open.{openOf}
-use Rattle.control.specs.Update.{updateOf}
-use Rattle.control.specs.Ramp.{startOf}
-use Rattle.feed.specs.Feed.{feedOf, fedSums}
-use Rattle.read_out.specs.ReadOut.{readOutOf, readOutWords}
+use Rattle.operations.specs.Update.{updateOf}
+use Rattle.operations.specs.Ramp.{startOf}
+use Rattle.operations.specs.Feed.{feedOf, fedSums}
+use Rattle.operations.specs.ReadOut.{readOutOf, readOutWords}
 use Rattle.whole_frame.specs.Chain.{frameAnswer, frameWords}
 use Rattle.pairs.specs.Pairs.{pairs}
 use Rattle.text.specs.Text.{digitCount, decimal}

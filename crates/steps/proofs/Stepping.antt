@@ -10,8 +10,8 @@ use Rattle.checks.specs.declared.Answer.{Answer}
 use Rattle.checks.specs.declared.Answer.the-variants.{Taken, Refused}
 use Rattle.checks.specs.Checks.{first, verdict, byAnswer}
 use Rattle.checks.proofs.Laws.{first-taken}
-use Rattle.feed.specs.Feed.{feedOf, fedSums}
-use Rattle.read_out.specs.ReadOut.{readOutOf, readOutWords}
+use Rattle.operations.specs.Feed.{feedOf, fedSums}
+use Rattle.operations.specs.ReadOut.{readOutOf, readOutWords}
 use Rattle.begin.specs.Begun.{begun}
 use Rattle.begin.proofs.Beginning.{begun-then}
 use Rattle.steps.specs.Steps.{partFed, allFed, feedAnswer, feedLeaves, readOutAnswer, readOutLeaves}

@@ -9,8 +9,8 @@ use Rattle.board.specs.declared.Board.{Board}
 use Rattle.board.specs.Board.{wanted}
 use Rattle.board.specs.Open.{openOf}
 use Rattle.begin.specs.Begun.{updated, started}
-use Rattle.feed.specs.Feed.{feedOf, fedSums}
-use Rattle.read_out.specs.ReadOut.{readOutOf, readOutWords}
+use Rattle.operations.specs.Feed.{feedOf, fedSums}
+use Rattle.operations.specs.ReadOut.{readOutOf, readOutWords}
 
 -- a board with so many readings fed; with more than the ramp wants it isn't sound
 abbrev pub withFed : ℕ → Board → Board

@@ -23,9 +23,9 @@ use Rattle.update.proofs.Overlong.{longest, overlong}
 use Rattle.board.specs.declared.Board.{Board}
 use Rattle.board.specs.Board.{area, wanted, unsound}
 use Rattle.board.specs.Open.{openOf}
-use Rattle.control.specs.Update.{updateOf}
+use Rattle.operations.specs.Update.{updateOf}
 use Rattle.board.specs.RampChecks.{rampChecks}
-use Rattle.feed.specs.Feed.{readingChecks, feedChecks, feedOf}
+use Rattle.operations.specs.Feed.{readingChecks, feedChecks, feedOf}
 use Rattle.board.proofs.Soundness.{sound-parts, wanted-nine}
 use Rattle.board.proofs.Checked.{ramp-taken}
 use Rattle.begin.specs.Begun.{updated, started}

@@ -29,13 +29,15 @@ use Rattle.layout.specs.Requires.{Readable}
 use Rattle.board.specs.declared.Board.{Board}
 use Rattle.board.specs.Board.{area, wanted}
 use Rattle.board.specs.RampChecks.{rampChecks}
-use Rattle.feed.specs.Feed.{feedChecks, extended, feedOf, fedSums}
-use Rattle.read_out.specs.ReadOut.{readOutChecks, readOutOf, readOutWords}
+use Rattle.operations.specs.Feed.{feedChecks, extended, feedOf, fedSums}
+use Rattle.operations.specs.ReadOut.{readOutChecks, readOutOf, readOutWords}
 use Rattle.board.proofs.Soundness.{sound-parts, sides-of, wanted-nine}
 use Rattle.board.proofs.Checked.{ramp-passes}
-use Rattle.feed.proofs.Checked.{FeedTaken, feed-taken, feedable}
-use Rattle.read_out.proofs.Checked.{read-out-taken, readable-frame}
-use Rattle.feed.proofs.Laws as FeedLaws
+use Rattle.operations.proofs.FeedChecked.{FeedTaken, feed-taken}
+use Rattle.feed.proofs.Feedable.{feedable}
+use Rattle.operations.proofs.ReadOutChecked.{read-out-taken}
+use Rattle.read_out.proofs.Readable.{readable-frame}
+use Rattle.operations.proofs.Laws.{laws}
 use Rattle.begin.specs.Begun.{started, begun}
 use Rattle.begin.proofs.Beginning.{begun-then}
 use Rattle.whole_frame.specs.Chain.{fed, readOut, frameAnswer}
@@ -84,7 +86,7 @@ module _ (b : Board) (none : b .fed ≡ 0) (xs : List ℕ) (sums : List ℤ) (ta
   unfolding feedOf
   ramp-after =
       ramp-passes _ _ (record {
-        whole = rw taken at (FeedLaws.laws .stays-sound b xs sums) ∙ parts .ramp .whole;
+        whole = rw taken at (laws .stays-sound .feed b xs sums) ∙ parts .ramp .whole;
         running = parts .ramp .running;
         length-is = left-length ∙ parts .ramp .length-is;
       })

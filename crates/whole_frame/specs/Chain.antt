@@ -10,8 +10,8 @@ use Rattle.board.specs.declared.Board.{Board}
 use Rattle.board.specs.declared.Outcome.{Outcome}
 use Rattle.board.specs.Open.{openOf}
 use Rattle.begin.specs.Begun.{updated, started}
-use Rattle.feed.specs.Feed.{feedOf, fedSums}
-use Rattle.read_out.specs.ReadOut.{readOutOf, readOutWords}
+use Rattle.operations.specs.Feed.{feedOf, fedSums}
+use Rattle.operations.specs.ReadOut.{readOutOf, readOutWords}
 
 -- on a board that was started
 abbrev pub fed : Board → List ℕ → List ℤ → Outcome

@@ -1,5 +1,5 @@
 -- `control::covered` meets its contract.
-use Rattle.control.specs.Covered.{coverageOf}
+use Rattle.operations.specs.Covered.{coverageOf}
 use Rattle.checks.specs.Checks.{verdict}
 use borrow.Author.Needs.{needs}
 use mathlib.Core.Path.{sym, _∙_}

@@ -1,5 +1,5 @@
 -- `control::drop` meets its contract.
-use Rattle.control.specs.Ramp.{dropOf}
+use Rattle.operations.specs.Ramp.{dropOf}
 use Rattle.checks.specs.Checks.{verdict}
 use Rattle.checks.proofs.Laws.{first-taken}
 use borrow.Author.Needs.{needs}

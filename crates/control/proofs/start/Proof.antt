@@ -1,5 +1,5 @@
 -- `control::start` meets its contract.
-use Rattle.control.specs.Ramp.{startOf}
+use Rattle.operations.specs.Ramp.{startOf}
 use Rattle.checks.specs.Checks.{verdict}
 use Rattle.checks.proofs.Laws.{first-taken}
 use borrow.Author.Needs.{needs}

@@ -9,7 +9,7 @@ use Rattle.checks.specs.Checks.{first, verdict, byAnswer}
 use Rattle.settings.specs.declared.Settings.{Settings}
 use Rattle.board.specs.declared.Board.{Board}
 use Rattle.board.specs.Board.{unsound, leaves}
-use Rattle.control.specs.Update.{withWaiting, updateOf}
+use Rattle.operations.specs.Update.{withWaiting, updateOf}
 use Rattle.control.proofs.update.Statement.{statement}
 use Rattle.control.proofs.update.Tie as tie
 

@@ -3,9 +3,10 @@ use mathlib.Core.Path.{refl, sym, _∙_}
 use native.Mathlib.Omega.{arith}
 use borrow.Author.Needs.{needs}
 use denote.Ref.{now}
-use Rattle.feed.specs.Feed.{feedOf, fedSums}
+use Rattle.operations.specs.Feed.{feedOf, fedSums}
 use Rattle.board.proofs.Soundness.{sound-parts, sides-of, wanted-nine}
-use Rattle.feed.proofs.Checked.{feed-taken, feedable}
+use Rattle.operations.proofs.FeedChecked.{feed-taken}
+use Rattle.feed.proofs.Feedable.{feedable}
 use Rattle.feed.proofs.feed.Statement.{statement}
 use Rattle.feed.proofs.feed.Tie as tie
 

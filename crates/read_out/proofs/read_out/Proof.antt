@@ -2,8 +2,9 @@
 use mathlib.Core.Path.{refl, sym, _∙_}
 use borrow.Author.Needs.{needs}
 use denote.Ref.{now}
-use Rattle.read_out.specs.ReadOut.{readOutOf, readOutWords}
-use Rattle.read_out.proofs.Checked.{read-out-taken, readable-frame}
+use Rattle.operations.specs.ReadOut.{readOutOf, readOutWords}
+use Rattle.operations.proofs.ReadOutChecked.{read-out-taken}
+use Rattle.read_out.proofs.Readable.{readable-frame}
 use Rattle.read_out.proofs.read_out.Statement.{statement}
 use Rattle.read_out.proofs.read_out.Tie as tie
 

@@ -6,9 +6,9 @@ use denote.Ref.{now}
 use Rattle.checks.specs.declared.Answer.the-variants.{Taken}
 use Rattle.checks.specs.Checks.{verdict}
 use Rattle.board.specs.Board.{sidesTaken}
-use Rattle.feed.specs.Feed.{feedChecks, feedOf}
+use Rattle.operations.specs.Feed.{feedChecks, feedOf}
 use Rattle.board.proofs.Soundness.{sound-parts}
-use Rattle.feed.proofs.Checked.{feed-taken}
+use Rattle.operations.proofs.FeedChecked.{feed-taken}
 use Rattle.whole_frame.proofs.Whole.{then-read-out}
 use Rattle.whole_frame.proofs.check.Statement.{statement}
 use Rattle.whole_frame.proofs.check.Tie as tie

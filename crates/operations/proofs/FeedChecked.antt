@@ -4,11 +4,9 @@ use mathlib.Core.Bool.{true}
 use mathlib.Core.List.{List}
 use mathlib.Core.Path.{_≡_}
 use borrow.Author.Tests.{ltb-false, le-ltb}
-use native.Mathlib.Omega.{arith}
 use lib.IntN.{ℤ, pos}
 use lib.ListN.{length}
 use Rattle.laws.specs.Lists.{every}
-use Rattle.settings.proofs.Parts.{in-range-whole}
 use Rattle.checks.specs.declared.Answer.the-variants.{Taken}
 use Rattle.checks.specs.declared.Found.the-variants.{Nothing}
 use Rattle.checks.specs.Search.{firstPlace}
@@ -18,13 +16,11 @@ use Rattle.checks.proofs.Search.{found-every, none-every}
 use Rattle.readings.specs.Readings.{readingInRange}
 use Rattle.entries.specs.Possible.{possible}
 use Rattle.written.specs.Written.{notPossibleAt}
-use Rattle.ramp.specs.Requires.{Feedable}
 use Rattle.board.specs.declared.Board.{Board}
 use Rattle.board.specs.Board.{wanted}
 use Rattle.board.specs.RampChecks.{rampChecks}
-use Rattle.board.proofs.Soundness.{sound-parts, sides-of, wanted-nine}
 use Rattle.board.proofs.Checked.{RampTaken, ramp-taken, ramp-passes, all-taken}
-use Rattle.feed.specs.Feed.{feedChecks}
+use Rattle.operations.specs.Feed.{feedChecks}
 
 pub record FeedTaken (b : Board) (xs : List ℕ) (sums : List ℤ) : Type 0 where
   pub ramp : RampTaken b (length sums)
@@ -46,17 +42,3 @@ pub feed-passes : (b : Board) (xs : List ℕ) (sums : List ℤ) → FeedTaken b 
 unfolding verdict
 feed-passes b xs sums t =
     rw (verdict-append (rampChecks b (length sums)), ramp-passes b (length sums) (t .ramp), le-ltb _ _ (t .room), found-every readingInRange xs 0 (t .readings), t .entries)
-
-pub feedable : (b : Board) (xs : List ℕ) (sums : List ℤ) → FeedTaken b xs sums → Feedable (b .«in_force») (b .fed) xs sums
-feedable b xs sums t =
-    let s = sound-parts b (t .ramp .whole) in
-    let z = sides-of b s in
-    let l = t .ramp .length-is in
-    record {
-      some = rw l (z .some);
-      few = rw l (z .few);
-      settings = in-range-whole _ (s .in-force);
-      room = rw l (omega (arith, t .room, wanted-nine b s));
-      readings = t .readings;
-      entries = t .entries;
-    }

@@ -6,9 +6,9 @@ use Rattle.checks.specs.declared.Answer.{Answer}
 use Rattle.checks.specs.declared.Answer.the-variants.{Taken, Refused}
 use Rattle.checks.specs.Checks.{verdict}
 use Rattle.board.specs.declared.Board.{Board}
-use Rattle.control.specs.declared.Coverage.{Coverage}
-use Rattle.control.specs.declared.Coverage.the-variants.{Covered, Uncovered}
-use Rattle.control.specs.declared.Coverage.the-variants as Coverage
+use Rattle.board.specs.declared.Coverage.{Coverage}
+use Rattle.board.specs.declared.Coverage.the-variants.{Covered, Uncovered}
+use Rattle.board.specs.declared.Coverage.the-variants as Coverage
 use Rattle.board.specs.Board.{unsound}
 
 abbrev pub coveredChecks : Board → List Answer

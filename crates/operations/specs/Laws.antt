@@ -1,33 +1,42 @@
 -- What must be true of the operations, beside the contracts. `proofs/Laws.antt` shows it.
 use Prim.Native.Nat.{ℕ}
 use mathlib.Core.Bool.{false}
-use mathlib.Core.List.{List}
+use mathlib.Core.List.{List, []}
 use mathlib.Core.Path.{_≡_}
+use lib.IntN.{ℤ}
+use lib.ListN.{length}
 use Rattle.checks.specs.declared.Refusal.{Refusal}
 use Rattle.checks.specs.declared.Answer.the-variants.{Taken, Refused}
-use Rattle.checks.specs.Checks.{refusal}
+use Rattle.checks.specs.Checks.{refusal, verdict}
 use Rattle.board.specs.declared.Board.{Board}
+use Rattle.board.specs.declared.Coverage.the-variants as Coverage
 use Rattle.board.specs.Board.{sound}
+use Rattle.board.specs.RampChecks.{rampChecks}
 use Rattle.board.specs.Kept.{SameSides, SameSettings, refused99}
-use Rattle.control.specs.declared.Coverage.the-variants as Coverage
-use Rattle.control.specs.Update.{withWaiting, updateOf}
-use Rattle.control.specs.Ramp.{startOf, dropOf}
-use Rattle.control.specs.Covered.{coverageOf}
+use Rattle.operations.specs.Update.{withWaiting, updateOf}
+use Rattle.operations.specs.Ramp.{startOf, dropOf}
+use Rattle.operations.specs.Feed.{feedOf, fedSums}
+use Rattle.operations.specs.ReadOut.{readOutOf, readOutWords}
+use Rattle.operations.specs.Covered.{coverageOf}
 
 -- what holds between any board and what an operation leaves of it, of each operation that changes one
 pub record OfEach (P : Board → Board → Type 0) : Type 0 where
   pub update : (b : Board) (bytes : List ℕ) → P b (updateOf b bytes .board)
   pub start : (b : Board) → P b (startOf b .board)
+  pub feed : (b : Board) (readings : List ℕ) (sums : List ℤ) → P b (feedOf b readings sums .board)
+  pub read-out : (b : Board) (sums : List ℤ) (output : List ℕ) → P b (readOutOf b sums output .board)
   pub drop : (b : Board) → P b (dropOf b .board)
 
--- each operation gives 99, whatever else it is handed, and the board stays as it was
+-- each operation gives 99, whatever else it is handed; board and buffers stay as they were
 pub record Gives99 (b : Board) : Type 0 where
   pub update : (bytes : List ℕ) → updateOf b bytes ≡ refused99 b
   pub start : startOf b ≡ refused99 b
+  pub feed : (readings : List ℕ) (sums : List ℤ) → (feedOf b readings sums ≡ refused99 b) × (fedSums b readings sums ≡ sums)
+  pub read-out : (sums : List ℤ) (output : List ℕ) → (readOutOf b sums output ≡ refused99 b) × (readOutWords b sums output ≡ output)
   pub drop : dropOf b ≡ refused99 b
   pub covered : coverageOf b ≡ Coverage.Refused (refusal 99)
 
-pub record ControlLaws : Type 0 where
+pub record OperationLaws : Type 0 where
   -- every operation keeps a sound board sound, and leaves any other as unsound as it was
   pub stays-sound : OfEach (λ old new. sound new ≡ sound old)
   -- a board that isn't sound gets 99 first
@@ -39,5 +48,10 @@ pub record ControlLaws : Type 0 where
   -- a taken Start puts the waiting settings in force, a refused one changes nothing
   pub start-in-force : (b : Board) → startOf b .answer ≡ Taken → startOf b .board .«in_force» ≡ b .waiting
   pub start-refused : (b : Board) (r : Refusal) → startOf b .answer ≡ Refused r → startOf b .board ≡ b
-  -- Drop keeps both settings
+  -- Feed, Read out and Drop keep both settings
+  pub feed-keeps : (b : Board) (readings : List ℕ) (sums : List ℤ) → SameSettings b (feedOf b readings sums .board)
+  pub read-out-keeps : (b : Board) (sums : List ℤ) (output : List ℕ) → SameSettings b (readOutOf b sums output .board)
   pub drop-keeps : (b : Board) → SameSettings b (dropOf b .board)
+  -- an empty Feed that passes its checks is taken and changes nothing: only 99, 10 and 11 can refuse it
+  pub empty-feed : (b : Board) (sums : List ℤ) → verdict (rampChecks b (length sums)) ≡ Taken
+      → (feedOf b [] sums ≡ record { answer = Taken; board = b }) × (fedSums b [] sums ≡ sums)

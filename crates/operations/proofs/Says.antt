@@ -6,8 +6,8 @@ use Rattle.settings.specs.Covered.{isCovered}
 use Rattle.checks.specs.Checks.{verdict}
 use Rattle.board.specs.declared.Board.{Board}
 use Rattle.board.specs.Board.{sound}
-use Rattle.control.specs.declared.Coverage.the-variants.{Covered, Uncovered}
-use Rattle.control.specs.Covered.{coverageOf}
+use Rattle.board.specs.declared.Coverage.the-variants.{Covered, Uncovered}
+use Rattle.operations.specs.Covered.{coverageOf}
 
 pub says : (b : Board) → sound b ≡ true → coverageOf b ≡ cond (isCovered (b .«in_force»)) Covered Uncovered
 unfolding coverageOf verdict
