@@ -83,7 +83,7 @@ fn step_from(entry: i32, reading: u16, weight: i32, threshold: u16, mark: i32) -
     pick(entry > MARK, entry, next)
 }
 
-// The entry after a reading of sample n.
+// The entry after a reading of a sample.
 pub fn stepped(entry: i32, reading: u16, sample: Sample) -> i32
     requires { ⌜ (1 ≤ sample .n) × (sample .n ≤ maxSamples) ⌝ }
     requires { ⌜ weightInRange (sample .weight) ≡ true ⌝ }
