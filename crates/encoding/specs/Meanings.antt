@@ -10,7 +10,7 @@ use lib.IntN.{ℤ, pos}
 use lib.ListN.{length}
 use lib.Signed.{_≤ℤ_, _<ℤ_}
 use Rattle.laws.specs.Lists.{total}
-use Rattle.settings.specs.Settings.{truncationInRange}
+use Rattle.settings.specs.Settings.{truncationInRange, maxSamples}
 use Rattle.settings.specs.Covered.{ceiling}
 use Rattle.meaning.specs.declared.WordRead.{WordRead}
 use Rattle.meaning.specs.declared.WordRead.the-variants.{Ordinary, Saturated, Negative}
@@ -36,7 +36,7 @@ pub record WordLaws : Type 0 where
       → Between (length entries) (total entries) (readWord r (wordOf r entries))
   -- the smallest mark n from 1 to 9: saturated at n
   pub saturated : (r : ℕ) (entries : List ℤ) (n : ℕ) → truncationInRange r ≡ true
-      → smallestMark entries ≡ some n → 1 ≤ n → n ≤ 9
+      → smallestMark entries ≡ some n → 1 ≤ n → n ≤ maxSamples
       → readWord r (wordOf r entries) ≡ Saturated n
   -- no mark, and a negative sum: negative
   pub negative : (r : ℕ) (entries : List ℤ) → truncationInRange r ≡ true

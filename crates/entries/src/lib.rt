@@ -4,6 +4,7 @@ ghost use mathlib.Core.Bool.{cond};
 ghost use Prim.Native.Nat.{_≤_};
 ghost use lib.IntN.{pos, _-ℤ_};
 ghost use lib.Signed.{_≤ℤ_};
+ghost use Rattle.settings.specs.Settings.{maxSamples};
 ghost use Rattle.entries.specs.Mark.{marked};
 ghost use Rattle.entries.specs.Possible.{possibleAfter};
 use numbers::wrapping_add;
@@ -25,7 +26,7 @@ pub fn lowered(entry: i32, gap: i32) -> i32
 // Whether an entry is possible after k samples. With the mark of sample k moved down to the highest sum, one range holds sums and marks; with the
 // lowest sum moved to the lowest number, one test tells the range.
 pub fn is_possible(entry: i32, k: usize) -> bool
-    requires { ⌜ k ≤ 9 ⌝ }
+    requires { ⌜ k ≤ maxSamples ⌝ }
     ensures { λ r. ⌜ r ≡ possibleAfter k entry ⌝ }
 {
     let samples = k as i32;

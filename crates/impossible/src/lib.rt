@@ -7,6 +7,7 @@ ghost use lib.ListN.{length, getD};
 ghost use lib.Signed.{_≤ℤ_};
 ghost use Rattle.laws.specs.Lists.{every};
 ghost use Rattle.checks.specs.Search.{firstPlace};
+ghost use Rattle.settings.specs.Settings.{maxSamples};
 ghost use Rattle.entries.specs.Mark.{mark};
 ghost use Rattle.entries.specs.Possible.{possibleAfter};
 ghost use Rattle.impossible.specs.Near as Def;
@@ -18,7 +19,7 @@ use entries::lowered;
 
 // Whether each entry is possible, with no early exit.
 fn each_possible(sums: &[i32], k: usize) -> bool
-    requires { ⌜ k ≤ 9 ⌝ }
+    requires { ⌜ k ≤ maxSamples ⌝ }
     ensures { λ r. ⌜ r ≡ every (possibleAfter k) (now (sums .entry)) ⌝ }
 {
     let mut bad = false;
@@ -64,7 +65,7 @@ fn nearness(k: usize) -> i32
 
 // How far the mark of sample k lies above the highest near sum.
 fn gap_above(k: usize, near: i32) -> i32
-    requires { ⌜ (k ≤ 9) × (pos 0 ≤ℤ near) × (near ≤ℤ pos 1048576) ⌝ }
+    requires { ⌜ (k ≤ maxSamples) × (pos 0 ≤ℤ near) × (near ≤ℤ pos 1048576) ⌝ }
     ensures { λ r. ⌜ r ≡ mark (k + 1) -ℤ near ⌝ }
 {
     MARK + (k as i32 + 1) - near
@@ -72,7 +73,7 @@ fn gap_above(k: usize, near: i32) -> i32
 
 // Whether all entries are surely possible, by quarters and what is left over.
 fn all_near(sums: &[i32], k: usize) -> bool
-    requires { ⌜ (1 ≤ k) × (k ≤ 9) ⌝ }
+    requires { ⌜ (1 ≤ k) × (k ≤ maxSamples) ⌝ }
     ensures { λ r. ⌜ (r ≡ true → every (possibleAfter k) (now (sums .entry)) ≡ true) ⌝ }
 {
     let near = nearness(k);
@@ -94,7 +95,7 @@ fn all_near(sums: &[i32], k: usize) -> bool
 
 // The place of the first entry that isn't possible after k samples.
 pub fn first_impossible(sums: &[i32], k: usize) -> Found
-    requires { ⌜ (1 ≤ k) × (k ≤ 9) ⌝ }
+    requires { ⌜ (1 ≤ k) × (k ≤ maxSamples) ⌝ }
     ensures { λ r. ⌜ r ≡ firstPlace (length (now (sums .entry))) (λ p. not (possibleAfter k (getD (now (sums .entry)) p (pos 0)))) ⌝ }
 {
     if all_near(sums, k) {

@@ -5,6 +5,7 @@ use mathlib.Core.Bool.{Bool}
 use mathlib.Core.List.{List}
 use lib.Dec.{eqb}
 use lib.ListN.{getD, take, drop}
+use Rattle.ranges.specs.Ranges.{maxSamples}
 use Rattle.record.specs.Record.{pairAt}
 use Rattle.pairs.specs.Pairs.{pairs}
 
@@ -39,4 +40,4 @@ maxPixels = 1024
 
 -- one reading more than the largest job wants
 abbrev pub maxReadings : ℕ
-maxReadings = 9 * maxPixels + 1
+maxReadings = maxSamples * maxPixels + 1

@@ -3,7 +3,7 @@ use Prim.Native.Nat.{ℕ, _+_, _*_, _^_, _≤_, _<_}
 use mathlib.Core.Bool.{true, false}
 use mathlib.Core.Path.{_≡_}
 use lib.Ieee.Exact.{HasValue}
-use Rattle.settings.specs.Settings.{truncationInRange}
+use Rattle.settings.specs.Settings.{truncationInRange, maxSamples}
 use Rattle.meaning.specs.declared.WordRead.the-variants.{Ordinary, Saturated, Negative, Unassigned}
 use Rattle.meaning.specs.Meaning.{limit, meaning, readWord}
 
@@ -14,7 +14,7 @@ pub record MeaningLaws : Type 0 where
       let hi = (w + 1) * 2 ^ r in
       (readWord r w ≡ Ordinary (limit lo) (limit hi)) × HasValue (limit lo) false lo 1 × HasValue (limit hi) false hi 1
   -- 32,752 + n, n from 1 to 9, reads as saturated at n
-  pub saturated : (r n : ℕ) → truncationInRange r ≡ true → 1 ≤ n → n ≤ 9 → readWord r (32752 + n) ≡ Saturated n
+  pub saturated : (r n : ℕ) → truncationInRange r ≡ true → 1 ≤ n → n ≤ maxSamples → readWord r (32752 + n) ≡ Saturated n
   -- 32,767 reads as negative
   pub negative : (r : ℕ) → truncationInRange r ≡ true → readWord r 32767 ≡ Negative
   -- 32,753 and 32,761 mean saturated at 1 and 9, 32,767 negative; 32,752, 32,762, 32,766, 32,768 and 65,535 are unassigned

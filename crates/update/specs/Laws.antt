@@ -11,7 +11,7 @@ use Rattle.checks.specs.declared.Refusal.{Refusal}
 use Rattle.checks.specs.declared.Answer.the-variants.{Taken, Refused}
 use Rattle.checks.specs.Checks.{refusal}
 use Rattle.settings.specs.declared.Settings.{Settings}
-use Rattle.settings.specs.Settings.{inRange, withThreshold, withTruncation}
+use Rattle.settings.specs.Settings.{maxSamples, inRange, withThreshold, withTruncation}
 use Rattle.record.specs.declared.Field.{Field}
 use Rattle.record.specs.declared.Field.the-variants.{Weight, Threshold, Truncation, Samples}
 use Rattle.record.specs.Record.{stands, mapOf, fieldCount, fieldOf, numberOf, weightOf}
@@ -43,7 +43,7 @@ pub record UpdateLaws : Type 0 where
   -- an update keeps the settings in range, taken or refused
   pub stays-in-range : (s : Settings) (bytes : List ℕ) → inRange s ≡ true → inRange (updateOf s bytes .settings) ≡ true
   -- a taken update changes exactly the fields whose bit stands
-  pub changes-named : (s : Settings) (bytes : List ℕ) → length (s .weights) ≡ 9 → updateOf s bytes .answer ≡ Taken
+  pub changes-named : (s : Settings) (bytes : List ℕ) → length (s .weights) ≡ maxSamples → updateOf s bytes .answer ≡ Taken
       → (bit : ℕ) → bit < fieldCount
       → valueIn (fieldOf bit) (updateOf s bytes .settings)
       ≡ cond (stands (mapOf bytes) bit) (meantBy (fieldOf bit) (numberOf bytes bit)) (valueIn (fieldOf bit) s)
@@ -65,5 +65,5 @@ pub record UpdateLaws : Type 0 where
       × (updateOf s (0x00 ∷ 0x02 ∷ 0x00 ∷ 0x40 ∷ []) ≡ refusedWith 6 s)
       × (updateOf s (0x01 ∷ 0x08 ∷ 0x20 ∷ 0x00 ∷ []) ≡ refusedWith 5 s)
   -- from any settings one record of bytes leads to any settings in range
-  pub reachable : (s t : Settings) → inRange s ≡ true → length (t .weights) ≡ 9
+  pub reachable : (s t : Settings) → inRange s ≡ true → length (t .weights) ≡ maxSamples
       → (bytes : List ℕ) × (every (λ b. ltb b 256) bytes ≡ true) × (updateOf t bytes ≡ taken s)

@@ -4,6 +4,7 @@ ghost use mathlib.Core.Bool.{not};
 ghost use Prim.Native.Nat.{ℕ, _+_, _*_, _-_, _^_, _≤_, _<_};
 ghost use lib.IntN.{pos};
 ghost use lib.ListN.{length, getD};
+ghost use Rattle.settings.specs.Settings.{maxSamples};
 ghost use Rattle.checks.specs.Search as Search;
 ghost use Rattle.checks.specs.Search.{firstPlace};
 ghost use Rattle.entries.specs.Possible.{possibleAfter};
@@ -26,7 +27,7 @@ fn shifted(found: Found, start: usize) -> Found
 
 // The first from `start` to `end` that isn't possible for k.
 fn first_between(sums: &[i32], start: usize, end: usize, k: usize) -> Found
-    requires { ⌜ (start ≤ end) × (end ≤ length (now sums)) × (1 ≤ k) × (k ≤ 9) ⌝ }
+    requires { ⌜ (start ≤ end) × (end ≤ length (now sums)) × (1 ≤ k) × (k ≤ maxSamples) ⌝ }
     ensures { λ r. ⌜ r ≡ Search.shifted start (firstPlace (end - start) (λ i. not (possibleAfter k (getD (now (sums .entry)) (start + i) (pos 0))))) ⌝ }
 {
     shifted(first_impossible(&sums[start..end], k), start)
@@ -34,7 +35,7 @@ fn first_between(sums: &[i32], start: usize, end: usize, k: usize) -> Found
 
 // The pixels before q have had c + 1 samples, and the first of them get another reading; those from q on have had c.
 pub fn first_not_possible(sums: &[i32], fed: usize, count: usize) -> Found
-    requires { ⌜ (0 < length (now sums)) × (length (now sums) ≤ 1048576) × (fed + count ≤ 9 * length (now sums)) ⌝ }
+    requires { ⌜ (0 < length (now sums)) × (length (now sums) ≤ 1048576) × (fed + count ≤ maxSamples * length (now sums)) ⌝ }
     ensures { λ r. ⌜ r ≡ firstPlace (length (now (sums .entry))) (notPossibleAt (pos 0) possibleAfter (length (now (sums .entry))) fed count (now (sums .entry))) ⌝ }
 {
     if count == 0 {
