@@ -8,6 +8,7 @@ mod job;
 mod limit;
 mod ours;
 mod plain;
+#[allow(dead_code)]
 #[path = "../bindings/ramp_frame.rs"]
 mod ramp_frame;
 mod rows;

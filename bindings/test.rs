@@ -3,7 +3,7 @@
 #[path = "ramp_frame.rs"]
 mod ramp_frame;
 
-use ramp_frame::{feed, frame, read_out, Refusal};
+use ramp_frame::{count_flags, feed, frame, nearest_flag, read_out, Refusal};
 
 fn main() {
     let record = [0x01, 0x08, 0x01, 0x01]; // weight 1 is 1, N is 1
@@ -25,6 +25,8 @@ fn main() {
     assert_eq!((sums, word), ([135, 135, 135, 131], [33]));
 
     in_parts();
+    flags();
+    refused_flags();
     println!("Rust: 0 failed");
 }
 
@@ -54,4 +56,49 @@ fn in_parts() {
     sums[3] = i32::MIN;
     let refused = read_out(2, 2, true, &record, &sums, &mut part);
     assert_eq!((refused, part), (Err(Refusal { number: 14, place: 3 }), [7]));
+}
+
+/// The nearest flag, the first in row order among equals, and the flags in a box.
+fn flags() {
+    // Three columns, three rows: above, left, right and below the middle, and the corners. Each is found when those before it are gone.
+    let mut words = [32_767u16; 9];
+    assert_eq!(nearest_flag(&words, 3, 3, 1, 1), Ok(Some((1, 1))));
+    for (left, at) in [4, 1, 3, 5, 7, 0, 2, 6, 8].into_iter().enumerate() {
+        assert_eq!(nearest_flag(&words, 3, 3, 1, 1), Ok(Some((at / 3, at % 3))));
+        assert_eq!(count_flags(&words, 3, 3, (0, 0), (2, 2)), Ok(9 - left));
+        words[at] = 32_766;
+    }
+    assert_eq!(nearest_flag(&words, 3, 3, 1, 1), Ok(None));
+    assert_eq!(count_flags(&words, 3, 3, (0, 0), (2, 2)), Ok(0));
+
+    let words = [32_753, 32_752, 32_762, 32_761, 65_535, 32_767];
+    assert_eq!(nearest_flag(&words, 3, 2, 0, 2), Ok(Some((1, 2))));
+    assert_eq!(nearest_flag(&words, 2, 3, 1, 0), Ok(Some((0, 0))));
+    assert_eq!(nearest_flag(&words, 6, 1, 0, 2), Ok(Some((0, 3))));
+    assert_eq!(count_flags(&words, 3, 2, (1, 0), (1, 2)), Ok(2));
+    assert_eq!(count_flags(&words, 3, 2, (0, 0), (1, 0)), Ok(2));
+    assert_eq!(count_flags(&words, 3, 2, (0, 1), (1, 1)), Ok(0));
+    assert_eq!(count_flags(&words, 3, 2, (1, 2), (1, 2)), Ok(1));
+}
+
+fn refused_flags() {
+    let words = [32_767u16; 6];
+    let refusal = |number| Refusal { number, place: 0 };
+    for (some, width, height, place, number) in [
+        (&words[..], 0, 2, (0, 0), 19),
+        (&words[..], 3, 1025, (9, 9), 19),
+        (&[], usize::MAX, usize::MAX, (0, 0), 19),
+        (&[], 1 << 32, 1 << 32, (0, 0), 19),
+        (&words[1..], 3, 2, (2, 3), 16),
+        (&[], 3, 2, (0, 0), 16),
+        (&words[..], 3, 2, (2, 0), 19),
+        (&words[..], 3, 2, (0, 3), 19),
+    ] {
+        let nearest = nearest_flag(some, width, height, place.0, place.1);
+        assert_eq!(nearest, Err(refusal(number)));
+        assert_eq!(count_flags(some, width, height, place, place), Err(refusal(number)));
+    }
+    assert_eq!(count_flags(&words, 3, 2, (1, 0), (0, 2)), Err(refusal(19)));
+    assert_eq!(count_flags(&words, 3, 2, (0, 2), (1, 1)), Err(refusal(19)));
+    assert_eq!(count_flags(&words[1..], 3, 2, (1, 2), (0, 0)), Err(refusal(16)));
 }

@@ -5,6 +5,21 @@ from __future__ import annotations
 from typing import Callable
 
 import replay
+from draw_flags import (
+    DENSITIES,
+    FAR,
+    FLAGS,
+    NEAR_FLAGS,
+    crossed,
+    draw_box,
+    draw_place,
+    draw_ring,
+    draw_sides,
+    draw_words,
+    outside,
+    wrong_sides,
+    wrong_words,
+)
 from draws import (
     EDGE_FIELDS,
     Draws,
@@ -36,12 +51,13 @@ HIGH_WORDS = (32_767, 32_768, 32_769, 65_519, 65_535)
 
 
 class Writer:
-    """A script in the making, played along to know its board and sums."""
+    """A script in the making, played along to know its board, sums and words."""
 
     def __init__(self, draws: Draws) -> None:
         self.draws = draws
         self.player = replay.Player()
         self.lines: list[str] = []
+        self.sides = (0, 0)  # of the frame that the words are
 
     def say(self, name: str, *numbers: int) -> str:
         """Add a command; its first answer line."""
@@ -51,7 +67,12 @@ class Writer:
         else:
             shown = values
         self.lines.append(" ".join([name, *map(str, shown)]))
-        return self.player.play(name, values)[0]
+        answer = self.player.play(name, values)[0]
+        if name == "readout" and answer == "taken":
+            board = self.player.board
+            step = 2 if board.binned else 1
+            self.sides = board.width // step, board.height // step
+        return answer
 
     def bytes(self) -> bytes:
         """The script."""
@@ -60,19 +81,38 @@ class Writer:
     # The commands that change nothing on a board.
 
     def ask(self) -> None:
-        """Covered, a word or a look at the sums."""
+        """Covered, a word, a look at the sums or at the flags."""
         draws = self.draws
-        kind = draws.below(3)
+        kind = draws.below(4)
         if kind == 0:
             self.say("covered")
         elif kind == 1:
             word = draws.choose((*WORDS, *HIGH_WORDS, draws.below(65_536)))
             self.say("word", word, draws.choose((0, 1, 2, 2, 3, 3, 4, 255)))
+        elif kind == 2:
+            self.ask_flags()
         else:
             length = len(self.player.sums)
             start = draws.below(length + 1)
             count = draws.between(0, min(length - start + 1, 12))
             self.say("print sums", start, count)
+
+    def words(self, width: int, height: int, words: list[int]) -> None:
+        """The words of a frame."""
+        self.say("words", *words)
+        self.sides = width, height
+
+    def ask_flags(self) -> None:
+        """The nearest flag and the flags in a box, of the frame that is there."""
+        draws, sides = self.draws, self.sides
+        if 0 in sides:
+            # There is none yet; what comes next must leave the one that now comes.
+            self.say("nearest", *sides, 0, 0)
+            self.say("count", *sides, 0, 0, 0, 0)
+            sides = draw_sides(draws)
+            self.words(*sides, draw_words(draws, sides[0] * sides[1], 20))
+        self.say("nearest", *sides, *draw_place(draws, *sides))
+        self.say("count", *sides, *draw_box(draws, *sides))
 
     def update(self) -> None:
         """An update, good or of each refusal."""
@@ -248,6 +288,8 @@ class Writer:
         if draws.chance(40):
             self.say("feed")
         self.say("readout", board.words)
+        for _ in range(draws.below(3)):
+            self.ask_flags()
         if draws.chance(50):
             self.say("print sums", 0, min(board.pixels, 20))
 
@@ -305,6 +347,9 @@ def before_open(writer: Writer) -> None:
     writer.say("word", draws.choose(WORDS), 2)
     writer.say("poke", 0, 5)
     writer.say("swap")
+    writer.say("nearest", *draw_sides(draws), 0, 0)
+    writer.say("count", *draw_sides(draws), 0, 0, 0, 0)
+    writer.ask_flags()
     for _ in range(3):
         writer.say("open", *draws.choose(REFUSED))
     writer.say("covered")
@@ -421,6 +466,98 @@ def many_words(writer: Writer) -> None:
         writer.say("drop")
 
 
+def many_flags(writer: Writer) -> None:
+    """The flags of small frames, and every refusal of both questions."""
+    draws = writer.draws
+    for word in (draws.choose(FLAGS), draws.choose(NEAR_FLAGS)):
+        writer.words(1, 1, [word])
+        writer.ask_flags()
+    # The same numbers written otherwise.
+    writer.lines.append("nearest 0000000001 01 -0 00")
+    writer.lines.append("count 1 001 -00 0 -0000000000 0000000000")
+    tied_flags(writer)
+    row, column = (draws.between(2, 12), 1), (1, draws.between(2, 12))
+    turn = draws.below(4)
+    for at, sides in enumerate((draw_sides(draws), row, column, draw_sides(draws))):
+        percent = (0, 10, 100, draws.choose(DENSITIES))[(at + turn) % 4]
+        writer.words(*sides, draw_words(draws, sides[0] * sides[1], percent))
+        for _ in range(draws.between(1, 3)):
+            writer.ask_flags()
+        boxes(writer)
+        # The same words as another frame.
+        turned = sides[1], sides[0]
+        writer.say("nearest", *turned, *draw_place(draws, *turned))
+        writer.say("count", *turned, *draw_box(draws, *turned))
+    refused_flags(writer)
+
+
+def tied_flags(writer: Writer) -> None:
+    """Places equally near on all sides: four straight, four across, eight, and any."""
+    draws = writer.draws
+    for near in (draws.choose((1, 4)), draws.choose((2, 8)), 5):
+        ring_of_flags(writer, (5, 5), [2, 2], near)
+    width, height = draw_sides(draws)
+    place, other = draw_place(draws, width, height), draw_place(draws, width, height)
+    near = (place[0] - other[0]) ** 2 + (place[1] - other[1]) ** 2
+    ring_of_flags(writer, (width, height), place, near)
+
+
+def ring_of_flags(
+    writer: Writer, sides: tuple[int, int], place: list[int], near: int
+) -> None:
+    """Flags on all places equally near; the first of them goes, until none is left."""
+    draws = writer.draws
+    words, ring = draw_ring(draws, *sides, place, near)
+    for index in ring:
+        words[index] = draws.choose(FLAGS)
+    for index in ring:
+        writer.words(*sides, words)
+        writer.say("nearest", *sides, *place)
+        words[index] = draws.choose(NEAR_FLAGS)
+    writer.words(*sides, words)
+    writer.say("nearest", *sides, *place)
+
+
+def boxes(writer: Writer) -> None:
+    """One place, one row, one column and the whole of a frame."""
+    draws, (width, height) = writer.draws, writer.sides
+    row, column = draw_place(draws, width, height)
+    writer.say("count", width, height, row, column, row, column)
+    writer.say("count", width, height, row, 0, row, width - 1)
+    writer.say("count", width, height, 0, column, height - 1, column)
+    writer.say("count", width, height, 0, 0, height - 1, width - 1)
+
+
+def refused_flags(writer: Writer) -> None:
+    """Each refusal of both questions, alone and with each other one."""
+    draws = writer.draws
+    # No words, and sides whose product is 0 where 64 bits are all there are.
+    writer.words(0, 0, [])
+    for sides in ((0, 0), (2**32, 2**32), (FAR, FAR), (1, 1), (1_024, 1_024)):
+        writer.say("nearest", *sides, 0, 0)
+        writer.say("count", *sides, 0, 0, 0, 0)
+    width, height = draws.between(2, 5), draws.between(2, 5)
+    words = draw_words(draws, width * height, 50)
+    for some in (words, wrong_words(draws, words)):
+        writer.words(width, height, some)
+        place, box = draw_place(draws, width, height), draw_box(draws, width, height)
+        for numbers in (place, outside(draws, place, width, height)):
+            writer.say("nearest", width, height, *numbers)
+            writer.say("nearest", *wrong_sides(draws, width, height), *numbers)
+        past = outside(draws, box, width, height)
+        for numbers in (box, past, crossed(draws, box, width, height)):
+            writer.say("count", width, height, *numbers)
+            writer.say("count", *wrong_sides(draws, width, height), *numbers)
+    # Each number at the first value that is outside.
+    writer.words(width, height, words)
+    writer.say("nearest", width, height, height, 0)
+    writer.say("nearest", width, height, 0, width)
+    writer.say("count", width, height, 0, 0, height, 0)
+    writer.say("count", width, height, 0, 0, 0, width)
+    writer.say("count", width, height, height, 0, height, 0)
+    writer.say("count", width, height, 0, width, 0, width)
+
+
 def spoil(draws: Draws, script: bytes) -> bytes:
     """A script with one malformed line."""
     lines = script.decode("ascii").split("\n")
@@ -456,6 +593,25 @@ def spoil(draws: Draws, script: bytes) -> bytes:
         "poke 4096 0",
         "print 0 0",
         "print sums 0",
+        "words",
+        "words 4097",
+        "words 1",
+        "words 0 1",
+        "words 1 65536",
+        "words 1 -1",
+        "nearest",
+        "nearest 1 1 0",
+        "nearest 1 1 0 0 0",
+        "nearest 1 1 0 -1",
+        "nearest -1 1 0 0",
+        "nearest 1 1 00000000000 0",
+        "nearest 10000000000 1 0 0",
+        "count",
+        "count 1 1 0 0",
+        "count 1 1 0 0 0",
+        "count 1 1 0 0 0 0 0",
+        "count 1 1 0 0 0 -1",
+        "count 1 1 0 0 0 10000000000",
         "feed",
         "close",
         "start # now",
@@ -472,17 +628,19 @@ KINDS = (
     many_words,
     small_board,
     large_board,
+    many_flags,
 )
 
 
 def make(seed: int, count: int) -> list[tuple[bytes, str]]:
-    """This many scripts with their outputs; every eighth is malformed."""
+    """This many scripts with their outputs; every ninth is malformed."""
     draws = Draws(seed)
     made = []
     for index in range(count):
         writer = Writer(draws)
-        malformed = index % 8 == 7
-        scene = small_board if malformed else KINDS[index % 8]
+        kind = index % (len(KINDS) + 1)
+        malformed = kind == len(KINDS)
+        scene = small_board if malformed else KINDS[kind]
         writer.lines.append(f"# {scene.__name__.replace('_', ' ')}")
         scene(writer)
         script = spoil(draws, writer.bytes()) if malformed else writer.bytes()
@@ -500,7 +658,7 @@ def sized_board(writer: Writer, width: int, height: int, binned: int) -> None:
 def tour(seed: int) -> bytes:
     """One long script with every scene, and boards from the smallest to the largest."""
     writer = Writer(Draws(seed))
-    for scene in (before_open, many_words, middle_board, large_board):
+    for scene in (before_open, many_words, middle_board, large_board, many_flags):
         scene(writer)
     for _ in range(8):
         small_board(writer)

@@ -9,6 +9,7 @@ import re
 import sys
 from typing import Optional, Union
 
+from flags import Place, count_flags, nearest_flag
 from jig import meaning
 from ramp import Board, Refusal, Settings, open_board
 
@@ -21,6 +22,7 @@ COUNT: Range = (0, MAX_COUNT)
 U16: Range = (0, 65_535)
 BYTE: Range = (0, 255)
 I32: Range = (-(2**31), 2**31 - 1)
+ANY: Range = (0, 10**10 - 1)  # all that ten digits can say
 
 # The ranges of each command's numbers.
 NUMBERS: dict[str, tuple[Range, ...]] = {
@@ -35,10 +37,12 @@ NUMBERS: dict[str, tuple[Range, ...]] = {
     "poke": ((0, MAX_COUNT - 1), I32),
     "swap": (),
     "print sums": (COUNT, COUNT),
+    "nearest": (ANY,) * 4,
+    "count": (ANY,) * 6,
 }
 
 # The range of each item in the commands that carry a list.
-ITEMS: dict[str, Range] = {"update": BYTE, "feed": U16}
+ITEMS: dict[str, Range] = {"update": BYTE, "feed": U16, "words": U16}
 
 BOARD_COMMANDS = ("open", "update", "start", "feed", "fill", "readout", "drop")
 
@@ -123,20 +127,23 @@ def answer(refusal: Optional[Refusal]) -> str:
 
 
 class Player:
-    """One board and two sums buffers, and the commands that act on them."""
+    """One board, two sums buffers and words, and the commands that act on them."""
 
     def __init__(self) -> None:
         self.board = Board()
         self.sums: list[int] = []
         self.spare: list[int] = []
+        self.words: list[int] = []
 
     def play(self, name: str, numbers: list[int]) -> list[str]:
         """Carry out a command and give the lines it prints."""
         if name in BOARD_COMMANDS:
             output = [0] * numbers[0] if name == "readout" else []
             refusal = self.call(name, numbers, output)
-            words = rows(output) if refusal is None else []
-            return [answer(refusal), board_line(self.board), *words]
+            if name == "readout" and refusal is None:
+                self.words = output
+            shown = rows(output) if refusal is None else []
+            return [answer(refusal), board_line(self.board), *shown]
         if name == "covered":
             covered = self.board.covered()
             if isinstance(covered, Refusal):
@@ -145,6 +152,11 @@ class Player:
         if name == "word":
             text = meaning(numbers[0], numbers[1])
             return [answer(text) if isinstance(text, Refusal) else text]
+        if name == "words":
+            self.words = numbers
+            return ["taken"]
+        if name in ("nearest", "count"):
+            return [self.ask_flags(name, numbers)]
         return self.handle_sums(name, numbers)
 
     def call(
@@ -168,6 +180,18 @@ class Player:
         if name == "readout":
             return self.board.read_out(self.sums, output)
         return self.board.drop()
+
+    def ask_flags(self, name: str, numbers: list[int]) -> str:
+        """Look for the nearest flag of the words, or count those in a box."""
+        width, height, *corners = numbers
+        first, last = Place(*corners[:2]), Place(*corners[-2:])
+        if name == "nearest":
+            found = nearest_flag(self.words, width, height, first)
+            if isinstance(found, Place):
+                return f"flag {found.row} {found.column}"
+            return "no flag" if found is None else answer(found)
+        flags = count_flags(self.words, width, height, first, last)
+        return answer(flags) if isinstance(flags, Refusal) else f"flags {flags}"
 
     def handle_sums(self, name: str, numbers: list[int]) -> list[str]:
         """Replace, damage, exchange or print the sums."""

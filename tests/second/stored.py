@@ -17,7 +17,7 @@ import replay
 
 ROOT = Path(__file__).resolve().parent.parent.parent
 SEED = 1
-SCRIPTS = 16
+SCRIPTS = 18
 
 
 def made() -> Iterator[tuple[Path, bytes]]:

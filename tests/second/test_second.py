@@ -12,7 +12,22 @@ import jig
 import make_jig
 import make_replay
 import replay
+from draw_flags import (
+    DENSITIES,
+    FLAGS,
+    NEAR_FLAGS,
+    draw_box,
+    draw_place,
+    draw_ring,
+    draw_sides,
+    draw_words,
+    outside,
+    wrong_box,
+    wrong_sides,
+    wrong_words,
+)
 from draws import Draws, draw_bad_record, draw_ramp, draw_record, encode_record
+from flags import Place, count_flags, is_flag, nearest_flag
 from ramp import (
     MARK,
     MAX_PRODUCT,
@@ -329,6 +344,240 @@ class Properties(unittest.TestCase):
             self.assertEqual((sums, repr(board)), ([1, 2, 3, 4], before))
 
 
+def drawn(rows: str) -> tuple[list[int], int, int]:
+    """The words, width and height of a frame drawn as text: x is a flag."""
+    lines = rows.split()
+    flag = {"x": 32_767, ".": 5}
+    return [flag[mark] for mark in "".join(lines)], len(lines[0]), len(lines)
+
+
+def box(numbers: list[int]) -> tuple[Place, Place]:
+    """The corners of a box."""
+    return Place(*numbers[:2]), Place(*numbers[2:])
+
+
+class Flags(unittest.TestCase):
+    """The nearest flag, and the flags in a box."""
+
+    def test_what_a_flag_is(self) -> None:
+        expected = {*range(32_753, 32_762), 32_767}
+        self.assertEqual({word for word in range(65_536) if is_flag(word)}, expected)
+        self.assertEqual(set(FLAGS), expected)
+        here = Place(0, 0)
+        for word in FLAGS:
+            self.assertEqual(nearest_flag([word], 1, 1, here), here)
+            self.assertEqual(count_flags([word], 1, 1, here, here), 1)
+        for word in (0, *NEAR_FLAGS):
+            self.assertIsNone(nearest_flag([word], 1, 1, here))
+            self.assertEqual(count_flags([word], 1, 1, here, here), 0)
+
+    def nearest_in(self, rows: str, row: int, column: int) -> tuple[int, int]:
+        """The nearest flag of a frame that has one."""
+        found = nearest_flag(*drawn(rows), Place(row, column))
+        assert isinstance(found, Place)
+        return found.row, found.column
+
+    def test_a_flag_is_its_own_nearest(self) -> None:
+        self.assertEqual(self.nearest_in("xxx xxx xxx", 1, 1), (1, 1))
+        self.assertEqual(self.nearest_in("x.. ..x xx.", 1, 2), (1, 2))
+        self.assertEqual(self.nearest_in("x.. ..x xxx", 2, 2), (2, 2))
+
+    def test_ties_go_to_the_first_in_row_order(self) -> None:
+        # Four directions: above, left, right, below.
+        self.assertEqual(self.nearest_in(".x. x.x .x.", 1, 1), (0, 1))
+        self.assertEqual(self.nearest_in("... x.x .x.", 1, 1), (1, 0))
+        self.assertEqual(self.nearest_in("... ..x .x.", 1, 1), (1, 2))
+        self.assertEqual(self.nearest_in("... ... .x.", 1, 1), (2, 1))
+        # The diagonals.
+        self.assertEqual(self.nearest_in("x.x ... x.x", 1, 1), (0, 0))
+        self.assertEqual(self.nearest_in("..x ... x.x", 1, 1), (0, 2))
+        self.assertEqual(self.nearest_in("... ... x.x", 1, 1), (2, 0))
+        # One step beats a diagonal, wherever it lies.
+        self.assertEqual(self.nearest_in("x.x ... xxx", 1, 1), (2, 1))
+        # Knight's moves: eight directions.
+        knights = ".x.x. x...x ..... x...x .x.x."
+        order = [(0, 1), (0, 3), (1, 0), (1, 4), (3, 0), (3, 4), (4, 1), (4, 3)]
+        words, width, height = drawn(knights)
+        for row, column in order:
+            found = nearest_flag(words, width, height, Place(2, 2))
+            self.assertEqual(found, Place(row, column))
+            words[row * width + column] = 32_766
+        self.assertIsNone(nearest_flag(words, width, height, Place(2, 2)))
+
+    def test_distances_are_squared(self) -> None:
+        # 5 straight and 3 with 4 are equally far.
+        frame = ".....x ...... ...... ....x. ...... x....."
+        self.assertEqual(self.nearest_in(frame, 0, 0), (0, 5))
+        self.assertEqual(self.nearest_in(frame.replace("x", ".", 1), 0, 0), (3, 4))
+        # 4 with 4 is farther than 5, and 3 with 3 is nearer.
+        frame = "...... ...... ...... ...... ....x. x....."
+        self.assertEqual(self.nearest_in(frame, 0, 0), (5, 0))
+        frame = ".....x ...... ...... ...x.."
+        self.assertEqual(self.nearest_in(frame, 0, 0), (3, 3))
+
+    def test_edges_and_corners(self) -> None:
+        frame = "x...x ..... ..... x...x"
+        for row, column in ((0, 0), (0, 4), (3, 0), (3, 4)):
+            self.assertEqual(self.nearest_in(frame, row, column), (row, column))
+        self.assertEqual(self.nearest_in(frame, 0, 2), (0, 0))
+        self.assertEqual(self.nearest_in(frame, 3, 2), (3, 0))
+        self.assertEqual(self.nearest_in(frame, 1, 4), (0, 4))
+        self.assertEqual(self.nearest_in(frame, 2, 4), (3, 4))
+        # The end of a row isn't beside the beginning of the next one.
+        self.assertEqual(self.nearest_in("..... x.... ....x", 0, 4), (2, 4))
+        self.assertEqual(self.nearest_in("x.... ..... ....x", 2, 0), (0, 0))
+        self.assertEqual(self.nearest_in("x.... ..... ....x", 0, 4), (2, 4))
+
+    def test_one_row_and_one_column(self) -> None:
+        self.assertEqual(self.nearest_in("x.....x", 0, 3), (0, 0))
+        self.assertEqual(self.nearest_in("x.....x", 0, 4), (0, 6))
+        self.assertEqual(self.nearest_in("x . . . . . x", 3, 0), (0, 0))
+        self.assertEqual(self.nearest_in("x . . . . . x", 4, 0), (6, 0))
+        for sides in ((7, 1), (1, 7), (1, 1), (1_024, 1), (1, 1_024)):
+            words = [32_752] * (sides[0] * sides[1])
+            self.assertIsNone(nearest_flag(words, *sides, Place(0, 0)))
+            last = Place(sides[1] - 1, sides[0] - 1)
+            words[-1] = 32_753
+            self.assertEqual(nearest_flag(words, *sides, Place(0, 0)), last)
+            self.assertEqual(count_flags(words, *sides, Place(0, 0), last), 1)
+
+    def test_boxes(self) -> None:
+        words, width, height = drawn("xx..x ..x.. x...x")
+        counts = {
+            (0, 0, 0, 0): 1,
+            (1, 1, 1, 1): 0,
+            (0, 0, 2, 4): 6,
+            (0, 0, 0, 4): 3,
+            (2, 0, 2, 4): 2,
+            (0, 0, 2, 0): 2,
+            (0, 4, 2, 4): 2,
+            (1, 1, 2, 3): 1,
+            (0, 1, 1, 2): 2,
+            (2, 1, 2, 3): 0,
+            (2, 4, 2, 4): 1,
+        }
+        for numbers, flags in counts.items():
+            corners = box(list(numbers))
+            self.assertEqual(count_flags(words, width, height, *corners), flags)
+
+    def test_the_largest_frame(self) -> None:
+        words = [7] * 1_024**2
+        words[1_023] = words[-1_024] = words[-1] = 32_761
+        whole = Place(0, 0), Place(1_023, 1_023)
+        self.assertEqual(count_flags(words, 1_024, 1_024, *whole), 3)
+        self.assertEqual(nearest_flag(words, 1_024, 1_024, whole[0]), Place(0, 1_023))
+
+    def answers(
+        self, words: list[int], sides: tuple[int, int], numbers: list[int]
+    ) -> set[object]:
+        """What both operations answer, for a box and each of its corners."""
+        first, last = box(numbers)
+        found: set[object] = {count_flags(words, *sides, first, last)}
+        return found | {nearest_flag(words, *sides, place) for place in (first, last)}
+
+    def test_refusals_of_sides(self) -> None:
+        for width, height in ((0, 1), (1, 0), (0, 0), (1_025, 1), (1, 1_025)):
+            for words in ([], [5], [32_767] * (width * height)):
+                for numbers in ([0, 0, 0, 0], [9, 9, 9, 9], [5_000, 0, 5_000, 0]):
+                    found = self.answers(words, (width, height), numbers)
+                    self.assertEqual(found, {Refusal(19)})
+        large = 2**32, 2**32
+        self.assertEqual(self.answers([], large, [0, 0, 0, 0]), {Refusal(19)})
+        # An odd side is a side as any other.
+        self.assertEqual(self.answers([5] * 15, (3, 5), [4, 2, 4, 2]), {0, None})
+
+    def test_refusals_of_the_length(self) -> None:
+        for words in ([], [32_767] * 5, [32_767] * 7, [32_767] * 1_025):
+            for numbers in ([0, 0, 0, 0], [1, 2, 1, 2], [2, 3, 2, 3], [5, 5, 5, 5]):
+                self.assertEqual(self.answers(words, (3, 2), numbers), {Refusal(16)})
+        crossed_box = count_flags([1], 3, 2, Place(1, 2), Place(0, 0))
+        self.assertEqual(crossed_box, Refusal(16))
+
+    def test_refusals_of_places(self) -> None:
+        words, width, height = drawn("xxx xxx")
+        for row, column in ((2, 0), (0, 3), (2, 3), (1, 3), (2, 2), (2**32, 0)):
+            out = Place(row, column)
+            self.assertEqual(nearest_flag(words, width, height, out), Refusal(19))
+            for corners in ((out, out), (Place(0, 0), out), (out, Place(1, 2))):
+                found = count_flags(words, width, height, *corners)
+                self.assertEqual(found, Refusal(19))
+        for numbers in ([1, 0, 0, 2], [0, 1, 1, 0], [1, 2, 0, 0], [0, 2, 0, 1]):
+            found = count_flags(words, width, height, *box(numbers))
+            self.assertEqual(found, Refusal(19))
+
+    def test_the_order_of_refusals(self) -> None:
+        draws = Draws(20)
+        for _ in range(300):
+            width, height = draw_sides(draws)
+            words = draw_words(draws, width * height, draws.choose(DENSITIES))
+            good = draw_place(draws, width, height), draw_box(draws, width, height)
+            bad = outside(draws, good[0], width, height)
+            bad_box = wrong_box(draws, good[1], width, height)
+            for wrong in range(8):
+                sides = (width, height)
+                if wrong & 1:
+                    sides = wrong_sides(draws, width, height)
+                some = wrong_words(draws, words) if wrong & 2 else words
+                place, corners = (bad, bad_box) if wrong & 4 else good
+                found = nearest_flag(some, *sides, Place(*place))
+                counted = count_flags(some, *sides, *box(corners))
+                if wrong:
+                    number = 16 if wrong & 3 == 2 else 19
+                    self.assertEqual((found, counted), (Refusal(number),) * 2)
+                else:
+                    self.assertNotIsInstance(found, Refusal)
+                    self.assertNotIsInstance(counted, Refusal)
+
+    def test_nothing_is_nearer_or_as_near_and_before(self) -> None:
+        draws = Draws(21)
+        for _ in range(300):
+            width, height = draw_sides(draws)
+            words = draw_words(draws, width * height, draws.choose(DENSITIES))
+            row, column = draw_place(draws, width, height)
+            flags = [
+                ((i // width - row) ** 2 + (i % width - column) ** 2, i)
+                for i, word in enumerate(words)
+                if word in FLAGS
+            ]
+            found = nearest_flag(words, width, height, Place(row, column))
+            if flags:
+                self.assertEqual(found, Place(*divmod(min(flags)[1], width)))
+            else:
+                self.assertIsNone(found)
+
+    def test_rings(self) -> None:
+        draws = Draws(22)
+        for _ in range(200):
+            width, height = draw_sides(draws)
+            place = draw_place(draws, width, height)
+            near = draws.choose((0, 1, 2, 4, 5, 8, 10, 25, 50, 65))
+            words, ring = draw_ring(draws, width, height, place, near)
+            for index in reversed(ring):
+                words[index] = draws.choose(FLAGS)
+                found = nearest_flag(words, width, height, Place(*place))
+                self.assertEqual(found, Place(*divmod(index, width)))
+
+    def test_boxes_side_by_side_add_up(self) -> None:
+        draws = Draws(23)
+        for _ in range(300):
+            width, height = draw_sides(draws)
+            words = draw_words(draws, width * height, draws.choose(DENSITIES))
+            top, left, bottom, right = draw_box(draws, width, height)
+            whole = count_flags(words, width, height, *box([top, left, bottom, right]))
+            lines = [
+                words[row * width + left : row * width + right + 1]
+                for row in range(top, bottom + 1)
+            ]
+            flags = [word for line in lines for word in line if word in FLAGS]
+            self.assertEqual(whole, len(flags))
+            cut = draws.between(top, bottom)
+            parts = [[top, left, cut, right]]
+            if cut < bottom:
+                parts.append([cut + 1, left, bottom, right])
+            counts = [count_flags(words, width, height, *box(part)) for part in parts]
+            self.assertEqual(sum(counts), whole)
+
+
 class Jig(unittest.TestCase):
     """The jig and its made inputs."""
 
@@ -379,6 +628,32 @@ class Replay(unittest.TestCase):
         self.assertEqual(replay.run(b"#" * 262_144), "")
         self.assertEqual(replay.run(b"\n\n# \xff\n\nfoo"), "malformed line 5\n")
 
+    def test_the_words_and_their_flags(self) -> None:
+        script = "open 4 2 1\nstart\nsums 8 0\n" + "fill 8 9\n" * 8 + "feed 8"
+        script += " 9" * 8 + "\npoke 2 -999\n"
+        board = replay.run(script.encode("ascii"))
+        asked = "nearest 2 1 0 0\ncount 2 1 0 0 0 1\n"
+        read = replay.run(f"{script}readout 2\n{asked}".encode("ascii"))
+        self.assertTrue(read.startswith(board))
+        self.assertTrue(read.endswith("\n32 32767\nflag 0 1\nflags 1\n"))
+        # A refused read out leaves the words, and so do a new board and its sums.
+        for call in ("readout 3", "swap", "open 1 1 0", "sums 2 5", "words 2 7 32753"):
+            text = replay.run(f"{script}readout 2\n{call}\n{asked}".encode("ascii"))
+            self.assertTrue(text.endswith("\nflag 0 1\nflags 1\n"), call)
+        text = replay.run(f"{script}words 2 5 5\nreadout 8\n{asked}".encode("ascii"))
+        self.assertTrue(text.endswith("\nno flag\nflags 0\n"))
+
+    def test_numbers_of_flags(self) -> None:
+        asked = "nearest 01 0000000001 -0 00\ncount 1 1 0 -000 0 0\n"
+        text = replay.run(f"words 1 32767\n{asked}".encode("ascii"))
+        self.assertEqual(text, "taken\nflag 0 0\nflags 1\n")
+        text = replay.run(asked.encode("ascii"))
+        self.assertEqual(text, "refused 16 0\nrefused 16 0\n")
+        large = b"nearest 9999999999 1 0 0\ncount 1 1 0 0 0 9999999999\n"
+        text = replay.run(b"words 1 32767\n" + large)
+        self.assertEqual(text, "taken\nrefused 19 0\nrefused 19 0\n")
+        self.assertEqual(replay.run(b"nearest 1 1 0 -1"), "malformed line 1\n")
+
     def test_made_scripts_reach_every_refusal(self) -> None:
         self.check_refusals([script for script, _ in make_replay.make(18, 64)])
 
@@ -386,9 +661,10 @@ class Replay(unittest.TestCase):
         self.check_refusals([make_replay.tour(1)])
 
     def check_refusals(self, scripts: list[bytes]) -> None:
-        """Every number is answered, and 14 at an entry of each kind."""
+        """Every number is answered, 14 at an entry of each kind, and all of flags."""
         seen: set[int] = set()
         intervals: set[str] = set()
+        flags: set[str] = set()
         for script in scripts:
             commands = replay.parse_script(script)
             if isinstance(commands, str):
@@ -396,14 +672,22 @@ class Replay(unittest.TestCase):
             player = replay.Player()
             for name, numbers in commands:
                 fed, pixels = player.board.fed, player.board.pixels
-                first = player.play(name, numbers)[0].split(" ")
+                line = player.play(name, numbers)[0]
+                first = line.split(" ")
+                if name in ("nearest", "count"):
+                    kind = re.match(r"flags?|no flag|refused \d+", line)
+                    flags.add(f"{name} {kind and kind[0]}")
                 if first[0] == "refused":
                     seen.add(int(first[1]))
                     if first[1] == "14":
                         low = name != "readout" and int(first[2]) < fed % pixels
                         intervals.add(name if name == "readout" else str(low))
-        self.assertEqual(seen, {*range(1, 17), 99})
+        self.assertEqual(seen, {*range(1, 17), 19, 99})
         self.assertEqual(intervals, {"readout", "True", "False"})
+        answers = {"nearest flag", "nearest no flag", "count flags"}
+        for name in ("nearest", "count"):
+            answers |= {f"{name} refused 16", f"{name} refused 19"}
+        self.assertEqual(flags, answers)
 
     def test_same_seed_same_files(self) -> None:
         self.assertEqual(make_replay.make(19, 16), make_replay.make(19, 16))

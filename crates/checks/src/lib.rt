@@ -59,14 +59,17 @@ pub const ENTRY_NOT_POSSIBLE: u8 = 14;
 // A ramp that still wants readings.
 pub const READINGS_WANTED: u8 = 15;
 
-// An output that isn't one word for each pixel, or each square.
-pub const OUTPUT_LENGTH: u8 = 16;
+// Words that aren't one for each pixel, or each square, of a frame.
+pub const WORDS_LENGTH: u8 = 16;
 
 // Bytes that are no job of the jig.
 pub const INPUT: u8 = 17;
 
 // A job of more than 1,024 pixels.
 pub const TOO_MANY_PIXELS: u8 = 18;
+
+// Sides, a place or a box that no frame of words has.
+pub const OUTSIDE_FRAME: u8 = 19;
 
 pub const UNSOUND_BOARD: u8 = 99;
 

@@ -1,4 +1,4 @@
-// The commands of a script, each with its numbers. The bytes of an update and the readings of a feed stay in the list.
+// The commands of a script, each with its numbers. The bytes of an update, the readings of a feed and the words stay in the list.
 ghost use Rattle.commands.specs.Ranges.{InRange};
 use check::same;
 use items::MOST;
@@ -39,19 +39,31 @@ pub enum Command {
         start: usize,
         count: usize,
     },
+    Words(usize),
+    Nearest {
+        width: usize,
+        height: usize,
+        row: usize,
+        column: usize,
+    },
+    Count {
+        width: usize,
+        height: usize,
+        row: usize,
+        column: usize,
+        last_row: usize,
+        last_column: usize,
+    },
     Nothing,
     Malformed,
 }
 
-// A count, then that many items up to the highest.
-fn is_list(list: &Numbers, count: usize, highest: usize) -> bool {
-    if count == 0 {
-        return false;
-    }
-    if natural(list[0]) != count - 1 {
-        return false;
-    }
-    let mut i = 1;
+// The largest number of ten digits.
+const LARGEST: usize = 9999999999;
+
+// Whether the numbers from a place on, of the first `count`, go up to the highest.
+fn all_up_to(list: &Numbers, from: usize, count: usize, highest: usize) -> bool {
+    let mut i = from;
     while i < count {
         if natural(item(list, i)) > highest {
             return false;
@@ -59,6 +71,15 @@ fn is_list(list: &Numbers, count: usize, highest: usize) -> bool {
         i += 1;
     }
     true
+}
+
+// A count, then that many items up to the highest.
+fn is_list(list: &Numbers, count: usize, highest: usize) -> bool {
+    if count == 0 {
+        false
+    } else {
+        (natural(list[0]) == count - 1) & all_up_to(list, 1, count, highest)
+    }
 }
 
 fn is_entry(n: i64) -> bool {
@@ -89,6 +110,19 @@ fn feed(list: &Numbers, count: usize) -> Command
             count: readings,
             same: false,
         }
+    } else {
+        Command::Malformed
+    }
+}
+
+fn words(list: &Numbers, count: usize) -> Command
+    ensures { λ r. ⌜ InRange r ⌝ }
+{
+    let words = natural(list[0]);
+    if words > MOST {
+        Command::Malformed
+    } else if is_list(list, count, 65535) {
+        Command::Words(words)
     } else {
         Command::Malformed
     }
@@ -187,13 +221,13 @@ fn with_none(word: &[u8]) -> Command
 }
 
 // The command that takes one number.
-fn with_one(word: &[u8], words: usize) -> Command
+fn with_one(word: &[u8], output: usize) -> Command
     ensures { λ r. ⌜ InRange r ⌝ }
 {
-    if words > MOST {
+    if output > MOST {
         Command::Malformed
     } else if same(word, b"readout") {
-        Command::ReadOut(words)
+        Command::ReadOut(output)
     } else {
         Command::Malformed
     }
@@ -237,6 +271,56 @@ fn with_three(word: &[u8], width: usize, height: usize, binned: usize) -> Comman
     }
 }
 
+// The command that takes four numbers, any with no sign.
+fn with_four(word: &[u8], list: &Numbers) -> Command
+    ensures { λ r. ⌜ InRange r ⌝ }
+{
+    if all_up_to(list, 0, 4, LARGEST) & same(word, b"nearest") {
+        Command::Nearest {
+            width: natural(list[0]),
+            height: natural(list[1]),
+            row: natural(list[2]),
+            column: natural(list[3]),
+        }
+    } else {
+        Command::Malformed
+    }
+}
+
+// The command that takes six numbers, any with no sign.
+fn with_six(word: &[u8], list: &Numbers) -> Command
+    ensures { λ r. ⌜ InRange r ⌝ }
+{
+    if all_up_to(list, 0, 6, LARGEST) & same(word, b"count") {
+        Command::Count {
+            width: natural(list[0]),
+            height: natural(list[1]),
+            row: natural(list[2]),
+            column: natural(list[3]),
+            last_row: natural(list[4]),
+            last_column: natural(list[5]),
+        }
+    } else {
+        Command::Malformed
+    }
+}
+
+// The command of a word that takes as many numbers as there are.
+fn with_some(word: &[u8], list: &Numbers, count: usize) -> Command
+    ensures { λ r. ⌜ InRange r ⌝ }
+{
+    let first = natural(list[0]);
+    match count {
+        0 => with_none(word),
+        1 => with_one(word, first),
+        2 => with_two(word, first, list[1]),
+        3 => with_three(word, first, natural(list[1]), natural(list[2])),
+        4 => with_four(word, list),
+        6 => with_six(word, list),
+        _ => Command::Malformed,
+    }
+}
+
 // The command of a word that takes the first `count` numbers of the list.
 pub fn named(word: &[u8], list: &Numbers, count: usize) -> Command
     ensures { λ r. ⌜ InRange r ⌝ }
@@ -245,14 +329,9 @@ pub fn named(word: &[u8], list: &Numbers, count: usize) -> Command
         update(list, count)
     } else if same(word, b"feed") {
         feed(list, count)
+    } else if same(word, b"words") {
+        words(list, count)
     } else {
-        let first = natural(list[0]);
-        match count {
-            0 => with_none(word),
-            1 => with_one(word, first),
-            2 => with_two(word, first, list[1]),
-            3 => with_three(word, first, natural(list[1]), natural(list[2])),
-            _ => Command::Malformed,
-        }
+        with_some(word, list, count)
     }
 }

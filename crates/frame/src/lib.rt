@@ -1,4 +1,4 @@
-// A whole frame in one call, and Feed and Read out alone, for C and Rust: a refusal's number, 0 if there is none, and its place.
+// What C and Rust call. A whole frame in one call, and Feed and Read out alone: a refusal's number, 0 if there is none, and its place.
 ghost use mathlib.Core.Path.{_≡_};
 ghost use Rattle.checks.specs.Told.{refusalNumber, refusalPlace};
 ghost use Rattle.whole_frame.specs.Chain.{frameAnswer, frameSums, frameWords};
@@ -7,6 +7,8 @@ use checks::told::told;
 use steps::feed_of;
 use steps::read_out_of;
 use whole_frame::frame_of;
+
+pub mod flag_calls;
 
 // A frame: the number of the first refusal of Open, Update, Start, Feed and Read out, 0 if it was taken, and its place.
 #[no_mangle]

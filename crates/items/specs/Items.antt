@@ -25,12 +25,12 @@ entryOf z = cond (leZ (negℤ (pos 2147483648)) z && leZ z (pos 2147483647)) z (
 abbrev pub byteItem : List ℤ → ℕ → ℕ
 byteItem list i = upTo 255 (getD list (i + 1) (pos 0))
 
-abbrev pub readingItem : Bool → List ℤ → ℕ → ℕ
-readingItem same list i = upTo 65535 (getD list (cond same 1 (i + 1)) (pos 0))
+abbrev pub shortItem : Bool → List ℤ → ℕ → ℕ
+shortItem same list i = upTo 65535 (getD list (cond same 1 (i + 1)) (pos 0))
 
 -- 4,096 of them
 abbrev pub byteItems : List ℤ → List ℕ
 byteItems list = each (byteItem list) 4096
 
-abbrev pub readingItems : Bool → List ℤ → List ℕ
-readingItems same list = each (readingItem same list) 4096
+abbrev pub shortItems : Bool → List ℤ → List ℕ
+shortItems same list = each (shortItem same list) 4096

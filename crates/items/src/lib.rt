@@ -1,12 +1,12 @@
-// The numbers of a line: one alone, or all that follow a count, as the bytes of a record or as readings.
+// The numbers of a line: one alone, or all that follow a count, as the bytes of a record or as numbers of 16 bits.
 ghost use mathlib.Core.Path.{_≡_};
 ghost use mathlib.Core.Bool.{cond};
 ghost use Prim.Native.Nat.{_+_, _≤_, _<_};
 ghost use lib.IntN.{pos};
 ghost use lib.ListN.{length, getD};
-ghost use Rattle.items.specs.Items.{naturalOf, upTo, entryOf, byteItems, readingItems};
+ghost use Rattle.items.specs.Items.{naturalOf, upTo, entryOf, byteItems, shortItems};
 
-// The most entries of the sums, readings of a feed, bytes of a record and words of an output.
+// The most entries of the sums, readings of a feed, bytes of a record and words.
 pub const MOST: usize = 4096;
 
 // The most numbers of a line: a count, and the items that it counts.
@@ -67,7 +67,7 @@ pub fn bytes_of(list: &Numbers) -> [u8; MOST]
     bytes
 }
 
-// The place in a list of a reading: the first item's each time, or one after the other.
+// The place in a list of an item: the first one's each time, or one after the other.
 fn place(i: usize, same: bool) -> usize
     requires { ⌜ i < 4096 ⌝ }
     ensures { λ r. ⌜ (r ≡ cond same 1 (i + 1)) × (r ≤ 4096) ⌝ }
@@ -75,17 +75,17 @@ fn place(i: usize, same: bool) -> usize
     if same { 1 } else { i + 1 }
 }
 
-// The items of a list, as readings, or its first item each time.
-pub fn readings_of(list: &Numbers, same: bool) -> [u16; MOST]
+// The items of a list, as numbers of 16 bits, or its first item each time: readings or words.
+pub fn shorts_of(list: &Numbers, same: bool) -> [u16; MOST]
     ensures count { λ r. ⌜ 4096 ≡ length r ⌝ }
-    ensures items { λ r. ⌜ r ≡ readingItems same (now (list .entry)) ⌝ }
+    ensures items { λ r. ⌜ r ≡ shortItems same (now (list .entry)) ⌝ }
 {
-    let mut readings = [0; MOST];
+    let mut shorts = [0; MOST];
     let mut i = 0;
     while i < MOST {
         let at = place(i, same);
-        readings[i] = up_to(list[at], 65535) as u16;
+        shorts[i] = up_to(list[at], 65535) as u16;
         i += 1;
     }
-    readings
+    shorts
 }

@@ -34,6 +34,10 @@ pub and-right : (a : Bool) → a && true ≡ a
 and-right true = refl
 and-right false = refl
 
+pub and-false : (a : Bool) → a && false ≡ false
+and-false true = refl
+and-false false = refl
+
 pub or-true : (a b : Bool) → a || b ≡ true → (a ≡ true) ⊎ (b ≡ true)
 or-true true b e = inl refl
 or-true false b e = inr e
@@ -49,6 +53,10 @@ or-right false = refl
 pub or-false : (a : Bool) → a || false ≡ a
 or-false true = refl
 or-false false = refl
+
+pub not-or : (a b : Bool) → not (a || b) ≡ not a && not b
+not-or true b = refl
+not-or false b = refl
 
 pub not-or-not : (a b : Bool) → not (a || not b) ≡ not a && b
 not-or-not true b = refl

@@ -1,14 +1,15 @@
 -- The squares of a board.
 --     room            one row of squares more
 --     row-word        a word of a row of squares is the frame's
-use Prim.Native.Nat.{ℕ, _+_, _*_, _/_, _%_, _≤_, _<_}
+use Prim.Native.Nat.{ℕ, _+_, _*_, _/_, _≤_, _<_}
 use mathlib.Core.Bool.{true}
 use mathlib.Core.List.{List}
-use mathlib.Core.Path.{_≡_, _∙_}
-use native.Mathlib.Nat.{mul-add-div-right, mul-add-mod-self-right, div-eq-of-lt, mod-eq-of-lt, mul-assoc, mul-left-comm, add-mul, one-mul, suc-mul, mul-le-mul-right}
+use mathlib.Core.Path.{_≡_}
+use native.Mathlib.Nat.{mul-assoc, mul-left-comm, add-mul, one-mul, suc-mul, mul-le-mul-right}
 use native.Mathlib.Omega.{arith}
 use lib.IntN.{ℤ, pos}
 use lib.ListN.{take, drop}
+use Rattle.laws.proofs.Numbers.{quotient, rest}
 use Rattle.laws.proofs.Parts.{part-at}
 use Rattle.encoding.specs.Frame.{pixelsOf, wordAt}
 use Rattle.layout.specs.Requires.{rowWord}
@@ -17,12 +18,6 @@ pub room : (row rows h : ℕ) → row < rows → row * h + h ≤ rows * h
 room row rows h p = rw (suc-mul row h) at (mul-le-mul-right h p)
 
 module _ (w h row i r at to : ℕ) (sums : List ℤ) (hw : w ≡ 2 * h) (hh : w / 2 ≡ h) (hi : i < h) (ht : to ≡ row * h) (ha : at ≡ 4 * to) where
-  divided : (row * h + i) / h ≡ row
-  divided = omega (arith, mul-add-div-right {m = h} (omega arith) row i, div-eq-of-lt hi)
-
-  left : (row * h + i) % h ≡ i
-  left = mul-add-mod-self-right row h i ∙ mod-eq-of-lt hi
-
   even : 2 * row * w ≡ at
   even = let e : row * w ≡ 2 * (row * h) = rw hw (mul-left-comm row 2 h) in omega (arith, mul-assoc 2 row w)
 
@@ -32,5 +27,5 @@ module _ (w h row i r at to : ℕ) (sums : List ℤ) (hw : w ≡ 2 * h) (hh : w 
   pub row-word : rowWord r (take w (drop at sums)) (take w (drop (at + w) sums)) i ≡ wordAt w true r sums (to + i)
   unfolding wordAt pixelsOf
   row-word =
-      rw (ht, hh, divided, left, even, odd)
+      rw (ht, hh, quotient h row i hi, rest h row i hi, even, odd)
       (rw (part-at sums at w (2 * i) (pos 0) (omega arith), part-at sums at w (2 * i + 1) (pos 0) (omega arith), part-at sums (at + w) w (2 * i) (pos 0) (omega arith), part-at sums (at + w) w (2 * i + 1) (pos 0) (omega arith)))

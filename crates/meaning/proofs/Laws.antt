@@ -1,19 +1,21 @@
 -- The laws of reading a word.
-use Prim.Native.Nat.{ℕ, _+_, _*_, _^_, _≤_, _<_}
-use mathlib.Core.Bool.{true, false}
+use Prim.Native.Nat.{ℕ, _+_, _-_, _*_, _^_, _≤_, _<_}
+use mathlib.Core.Bool.{Bool, true, false, cond, _||_}
 use mathlib.Core.Path.{_≡_, refl, ap, _∙_}
-use borrow.Author.Tests.{lt-ltb, le-ltb, le-leb}
+use borrow.Author.Tests.{lt-ltb, le-ltb, le-leb, lt-leb, ltb-true, ne-eqb}
 use native.Mathlib.Nat.{mul-le-mul}
 use native.Mathlib.Omega.{arith}
 use lib.Ieee.{ofInt, binary64}
 use lib.Ieee.Back.{round-whole}
 use lib.Ieee.Exact.{HasValue}
+use lib.Dec.{ltb}
 use lib.Pow.{pow-mono}
+use Rattle.laws.proofs.Tests.{cases}
 use Rattle.settings.specs.Settings.{truncationInRange}
 use Rattle.settings.proofs.Parts.{truncation-parts}
-use Rattle.meaning.specs.declared.WordRead.the-variants.{Ordinary, Saturated, Negative}
-use Rattle.meaning.specs.Meaning.{limit, meaning, readWord}
-use Rattle.meaning.specs.Laws.{MeaningLaws}
+use Rattle.meaning.specs.declared.WordRead.the-variants.{Ordinary, Saturated, Negative, Unassigned}
+use Rattle.meaning.specs.Meaning.{limit, saturatedWord, negativeWord, meaning, readWord, isFlag}
+use Rattle.meaning.specs.Laws.{readAsFlag, MeaningLaws}
 
 -- a whole number up to 2^53 is its float's value
 exact : (n : ℕ) → n ≤ 9007199254740992 → HasValue (limit n) false n 1
@@ -46,6 +48,19 @@ module _ (r : ℕ) (in-r : truncationInRange r ≡ true) where
   unfolding meaning
   negative = reads 32767
 
+  flags : (w : ℕ) → readAsFlag (readWord r w) ≡ isFlag w
+  unfolding meaning isFlag
+  flags w =
+      ap readAsFlag (reads w)
+      ∙ cases (ltb w 32752)
+      (λ e. let h = ltb-true w 32752 e in rw (e, lt-leb 32753 w (omega arith), ne-eqb w 32767 (λ q. omega arith)))
+      (λ e. rw e (by (saturatedWord w) (negativeWord w)))
+    where
+      by : (s n : Bool) → readAsFlag (cond s (Saturated (w - 32752)) (cond n Negative Unassigned)) ≡ s || n
+      by true n = refl
+      by false true = refl
+      by false false = refl
+
 pub laws : MeaningLaws
 unfolding meaning
 laws = record {
@@ -53,4 +68,5 @@ laws = record {
   saturated = λ r n t. flag r t n;
   negative = negative;
   known-flags = (refl, refl, refl, refl, refl, refl, refl, refl);
+  flags = λ r w t. flags r t w;
 }

@@ -1,11 +1,20 @@
 -- What must be true of reading a word, beside the contract. `proofs/Laws.antt` shows it.
 use Prim.Native.Nat.{ℕ, _+_, _*_, _^_, _≤_, _<_}
-use mathlib.Core.Bool.{true, false}
+use mathlib.Core.Bool.{Bool, true, false}
 use mathlib.Core.Path.{_≡_}
 use lib.Ieee.Exact.{HasValue}
 use Rattle.settings.specs.Settings.{truncationInRange, maxSamples}
-use Rattle.meaning.specs.declared.WordRead.the-variants.{Ordinary, Saturated, Negative, Unassigned}
-use Rattle.meaning.specs.Meaning.{limit, meaning, readWord}
+use Rattle.meaning.specs.declared.WordRead.{WordRead}
+use Rattle.meaning.specs.declared.WordRead.the-variants.{Ordinary, Saturated, Negative, Unassigned, Refused}
+use Rattle.meaning.specs.Meaning.{limit, meaning, readWord, isFlag}
+
+-- whether a word was read as saturated or negative
+abbrev pub readAsFlag : WordRead → Bool
+readAsFlag (Ordinary low high) = false
+readAsFlag (Saturated n) = true
+readAsFlag Negative = true
+readAsFlag Unassigned = false
+readAsFlag (Refused r) = false
 
 pub record MeaningLaws : Type 0 where
   -- a word below 32,752 reads as ordinary, with the limits w × 2^r and (w + 1) × 2^r, both exact
@@ -26,3 +35,5 @@ pub record MeaningLaws : Type 0 where
       × (meaning 2 32766 ≡ Unassigned)
       × (meaning 2 32768 ≡ Unassigned)
       × (meaning 2 65535 ≡ Unassigned)
+  -- a word is a flag exactly when it reads as saturated or negative, with each r from 1 to 3
+  pub flags : (r w : ℕ) → truncationInRange r ≡ true → readAsFlag (readWord r w) ≡ isFlag w

@@ -1,6 +1,6 @@
--- Reading a word.
+-- Reading a word, and which words are flags.
 use Prim.Native.Nat.{ℕ, _+_, _-_, _*_, _^_}
-use mathlib.Core.Bool.{cond, not, _&&_}
+use mathlib.Core.Bool.{Bool, cond, not, _&&_, _||_}
 use lib.Dec.{leb, ltb, eqb}
 use lib.Ieee.{Float, binary64, ofInt}
 use lib.IntN.{pos}
@@ -13,14 +13,25 @@ use Rattle.meaning.specs.declared.WordRead.the-variants.{Ordinary, Satur
 abbrev pub limit : ℕ → Float
 limit n = ofInt binary64 (pos n)
 
--- below 32,752 ordinary: a sum of w × 2^r or more, and below (w + 1) × 2^r; 32,753 to 32,761 saturated at sample 1 to 9; 32,767 negative; any other is
--- unassigned
+-- 32,753 to 32,761: saturated
+abbrev pub saturatedWord : ℕ → Bool
+saturatedWord w = leb 32753 w && leb w 32761
+
+-- 32,767: negative
+abbrev pub negativeWord : ℕ → Bool
+negativeWord w = eqb w 32767
+
+-- below 32,752 ordinary: a sum of w × 2^r or more, and below (w + 1) × 2^r; saturated at sample 1 to 9, or negative; any other is unassigned
 unfoldable pub meaning : ℕ → ℕ → WordRead
 meaning r w =
     cond (ltb w 32752) (Ordinary (limit (w * 2 ^ r)) (limit ((w + 1) * 2 ^ r)))
-    (cond (leb 32753 w && leb w 32761) (Saturated (w - 32752))
-    (cond (eqb w 32767) Negative
+    (cond (saturatedWord w) (Saturated (w - 32752))
+    (cond (negativeWord w) Negative
     Unassigned))
+
+-- a flag: a word that means saturated or negative, whatever r is
+unfoldable pub isFlag : ℕ → Bool
+isFlag w = saturatedWord w || negativeWord w
 
 -- 7: an r outside 1 to 3
 unfoldable pub readWord : ℕ → ℕ → WordRead

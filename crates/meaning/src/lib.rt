@@ -1,7 +1,7 @@
-// Read a word: what it means.
+// Read a word: what it means, and whether it is a flag.
 ghost use mathlib.Core.Path.{_≡_};
 ghost use Prim.Native.Nat.{_≤_};
-ghost use Rattle.meaning.specs.Meaning.{meaning, readWord};
+ghost use Rattle.meaning.specs.Meaning.{meaning, readWord, isFlag};
 use checks::Refusal;
 use ranges::truncation_in_range;
 
@@ -52,4 +52,11 @@ pub fn read_word(word: u16, truncation: u16) -> WordRead
             place: 0,
         })
     }
+}
+
+// Whether a word means saturated or negative.
+pub fn is_flag(word: u16) -> bool
+    ensures { λ r. ⌜ r ≡ isFlag word ⌝ }
+{
+    (32753 <= word) & (word <= 32761) | (word == 32767)
 }

@@ -30,7 +30,7 @@ fn check_output(board: Board, sums: &[i32], words: usize) -> Answer
 {
     let samples = board.in_force.samples as usize;
     let wanted = Answer::when(board.fed < board.wanted(), checks::READINGS_WANTED);
-    let length = Answer::when(words != word_count(board), checks::OUTPUT_LENGTH);
+    let length = Answer::when(words != word_count(board), checks::WORDS_LENGTH);
     let impossible = Answer::found(first_impossible(sums, samples), checks::ENTRY_NOT_POSSIBLE);
     wanted.then(length.then(impossible))
 }

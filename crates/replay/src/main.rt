@@ -1,8 +1,7 @@
 // The replay: a script of calls comes in on standard input; each call's answer, the board it leaves and each frame go out as text.
 use crate::player::Player;
 use crate::player::Sums;
-use crate::print::newline;
-use crate::print::next;
+use crate::player::Words;
 use crate::print::text;
 use checks::Found;
 use items::COUNT;
@@ -11,7 +10,6 @@ use items::Numbers;
 use libc::STDIN_FILENO;
 use script::first_malformed;
 use script::line_end;
-use script::said;
 
 mod player;
 mod print;
@@ -24,12 +22,12 @@ fn goes_on() -> bool {
 }
 
 // Plays the lines one after the other.
-fn play(script: &[u8], list: &mut Numbers, sums: &mut Sums, spare: &mut Sums) {
+fn play(script: &[u8], list: &mut Numbers, sums: &mut Sums, spare: &mut Sums, words: &mut Words) {
     let mut player = Player::first();
     let mut at = 0;
     while at < script.len() {
         let end = line_end(script, at);
-        player = player.play(said(&script[at..end], list), list, sums, spare);
+        player = player.play(&script[at..end], list, sums, spare, words);
         at = end + 1;
     }
 }
@@ -39,14 +37,11 @@ fn replay(script: &[u8]) {
     let mut list = [0; COUNT];
     let mut sums = [0; MOST];
     let mut spare = [0; MOST];
+    let mut words = [0; MOST];
     let found = first_malformed(script, &mut list);
     match found {
-        Found::At(line) => {
-            text(b"malformed line");
-            next(line as u64);
-            newline();
-        }
-        Found::Nothing => play(script, &mut list, &mut sums, &mut spare),
+        Found::At(line) => show::one(b"malformed line", line as u64),
+        Found::Nothing => play(script, &mut list, &mut sums, &mut spare, &mut words),
     }
 }
 

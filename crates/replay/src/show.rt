@@ -11,6 +11,8 @@ use board::Coverage;
 use checks::Answer;
 use checks::Refusal;
 use meaning::WordRead;
+use places::Count;
+use places::Nearest;
 use settings::Settings;
 
 pub(crate) fn taken() {
@@ -21,12 +23,24 @@ pub(crate) fn outside() {
     text(b"outside\n");
 }
 
+// A name and a number.
+pub(crate) fn one(name: &[u8], n: u64) {
+    text(name);
+    next(n);
+    newline();
+}
+
+// A name and two numbers.
+fn two(name: &[u8], n: u64, m: u64) {
+    text(name);
+    next(n);
+    next(m);
+    newline();
+}
+
 // A refusal with its number and place.
 fn refusal(r: Refusal) {
-    text(b"refused");
-    next(r.number as u64);
-    next(r.place as u64);
-    newline();
+    two(b"refused", r.number as u64, r.place as u64);
 }
 
 pub(crate) fn answer(answer: Answer) {
@@ -51,20 +65,29 @@ fn limits(low: f64, high: f64) {
     newline();
 }
 
-fn saturated(sample: u64) {
-    text(b"sat");
-    next(sample);
-    newline();
-}
-
 // What a word means: its limits or its flag.
 pub(crate) fn meaning(read: WordRead) {
     match read {
         WordRead::Ordinary { low, high } => limits(low, high),
-        WordRead::Saturated(sample) => saturated(sample as u64),
+        WordRead::Saturated(sample) => one(b"sat", sample as u64),
         WordRead::Negative => text(b"neg\n"),
         WordRead::Unassigned => text(b"none\n"),
         WordRead::Refused(r) => refusal(r),
+    }
+}
+
+pub(crate) fn nearest(nearest: Nearest) {
+    match nearest {
+        Nearest::At(place) => two(b"flag", place.row as u64, place.column as u64),
+        Nearest::NoFlag => text(b"no flag\n"),
+        Nearest::Refused(r) => refusal(r),
+    }
+}
+
+pub(crate) fn count(count: Count) {
+    match count {
+        Count::Flags(n) => one(b"flags", n as u64),
+        Count::Refused(r) => refusal(r),
     }
 }
 

@@ -19,7 +19,7 @@ fn check(b: Board, readings: &[u16], sums: &[i32], words: &[u16]) -> Answer
     match feed {
         Answer::Taken => {
             let wanted = Answer::when(readings.len() < b.wanted(), checks::READINGS_WANTED);
-            wanted.then(Answer::when(words.len() != word_count(b), checks::OUTPUT_LENGTH))
+            wanted.then(Answer::when(words.len() != word_count(b), checks::WORDS_LENGTH))
         }
         Answer::Refused(_) => feed,
     }

@@ -1,0 +1,2 @@
+-- The flags of a box, row by row.
+pub mod BoxRows

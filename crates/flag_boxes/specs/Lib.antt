@@ -1,0 +1,2 @@
+-- What the count asks for.
+pub mod Requires

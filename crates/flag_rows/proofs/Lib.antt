@@ -1,0 +1,2 @@
+-- Flags of a row, by their distance.
+pub mod Sideways

@@ -1,0 +1,2 @@
+-- Checked calls.
+pub mod Checked

@@ -1,0 +1,2 @@
+-- The answers about flags, as plain numbers.
+pub mod FlagAnswers
