@@ -1,7 +1,7 @@
 """Compares a program with its second program: programs.py NAME PROGRAM SEED COUNT.
 
 NAME is jig or replay, and PROGRAM the compiled one. It must print exactly what the second program prints: on the stored inputs; on every
-beginning of an example; on a megabyte of noise of two kinds; and on COUNT random inputs, good and bad.
+beginning of an example; on each malformed line alone; on a megabyte of noise of two kinds; and on COUNT random inputs, good and bad.
 Prints how many agreed; the exit status is 1 if any did not.
 """
 
@@ -56,7 +56,8 @@ def main() -> int:
 
     def cases() -> Iterator[tuple[str, bytes, bytes]]:
         yield from stored(name)
-        for given_name, given in (*beginnings(name), *noise(seed)):
+        malformed = [(f"the line {line!r}", line.encode("ascii")) for line in getattr(maker, "MALFORMED", ())]
+        for given_name, given in (*beginnings(name), *malformed, *noise(seed)):
             yield given_name, given, second.run(given).encode("ascii")
         for index, (given, text) in enumerate(maker.make(seed, count), 1):
             yield f"input {index} of seed {seed}", given, text.encode("ascii")
