@@ -5,9 +5,9 @@ use mathlib.Core.Bool.{true}
 use mathlib.Core.List.{List}
 use mathlib.Core.Logic.{inl, inr}
 use mathlib.Core.Path.{_≡_, refl, sym, subst, _∙_}
-use native.Mathlib.Nat.{div-add-mod', mul-le-mul-right, mul-comm, suc-mul}
+use native.Mathlib.Nat.{div-add-mod'}
 use native.Mathlib.Omega.{arith}
-use lib.ListN.{length, take, drop}
+use lib.ListN.{take, drop}
 use Rattle.laws.proofs.Numbers.{quotient, rest}
 use Rattle.laws.proofs.Parts.{part-at}
 use Rattle.laws.proofs.Tests.{clash}
@@ -24,10 +24,7 @@ use Rattle.flag_search.specs.Keys.{Least, keyOf, noKey}
 use Rattle.flag_search.proofs.Distances.{square-less}
 use Rattle.flag_search.proofs.Keyed.{key-order, row-column}
 
-module _ (words : List ℕ) (width height : ℕ) (place : Place) (s : Searched words width height place) (row : ℕ) (here : row < height) where
-  pub row-room : row * width + width ≤ length words
-  row-room = rw (s .whole, mul-comm width height, ← suc-mul row width) (mul-le-mul-right width here)
-
+module _ (words : List ℕ) (width height : ℕ) (place : Place) (s : Searched words width height place) (row : ℕ) where
   abbrev part : List ℕ
   part = take width (drop (row * width) words)
 

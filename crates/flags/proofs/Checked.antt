@@ -2,13 +2,12 @@
 use Prim.Native.Nat.{ℕ}
 use mathlib.Core.List.{List}
 use mathlib.Core.Path.{_≡_}
-use native.Mathlib.Nat.{mul-le-mul-right, mul-comm, suc-mul}
 use native.Mathlib.Omega.{arith}
 use Rattle.checks.specs.declared.Answer.the-variants.{Taken}
 use Rattle.checks.specs.Checks.{verdict}
 use Rattle.places.specs.declared.Place.{Place}
 use Rattle.places.specs.Checks.{nearestChecks, countChecks}
-use Rattle.places.proofs.Checked.{nearest-taken, count-taken}
+use Rattle.places.proofs.Checked.{nearest-taken, count-taken, row-room}
 use Rattle.flag_search.specs.Requires.{Searched}
 use Rattle.flag_boxes.specs.Requires.{Boxed}
 
@@ -36,6 +35,6 @@ module _ (words : List ℕ) (width height : ℕ) where
         across = t .1 .column;
         wide = f .sides .width .high;
         high = omega (arith, t .1 .row, f .sides .height .high);
-        down = rw (f .whole, mul-comm width height, ← suc-mul (last .row) width) (mul-le-mul-right width (t .1 .row));
+        down = row-room words width height (f .whole) (last .row) (t .1 .row);
         few = omega (arith, f .whole, f .sides .few);
       }

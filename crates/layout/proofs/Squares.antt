@@ -1,11 +1,9 @@
--- The squares of a board.
---     room            one row of squares more
---     row-word        a word of a row of squares is the frame's
-use Prim.Native.Nat.{ℕ, _+_, _*_, _/_, _≤_, _<_}
+-- A word of a row of squares is the frame's.
+use Prim.Native.Nat.{ℕ, _+_, _*_, _/_, _<_}
 use mathlib.Core.Bool.{true}
 use mathlib.Core.List.{List}
 use mathlib.Core.Path.{_≡_}
-use native.Mathlib.Nat.{mul-assoc, mul-left-comm, add-mul, one-mul, suc-mul, mul-le-mul-right}
+use native.Mathlib.Nat.{mul-assoc, mul-left-comm, add-mul, one-mul}
 use native.Mathlib.Omega.{arith}
 use lib.IntN.{ℤ, pos}
 use lib.ListN.{take, drop}
@@ -13,9 +11,6 @@ use Rattle.laws.proofs.Numbers.{quotient, rest}
 use Rattle.laws.proofs.Parts.{part-at}
 use Rattle.encoding.specs.Frame.{pixelsOf, wordAt}
 use Rattle.layout.specs.Requires.{rowWord}
-
-pub room : (row rows h : ℕ) → row < rows → row * h + h ≤ rows * h
-room row rows h p = rw (suc-mul row h) at (mul-le-mul-right h p)
 
 module _ (w h row i r at to : ℕ) (sums : List ℤ) (hw : w ≡ 2 * h) (hh : w / 2 ≡ h) (hi : i < h) (ht : to ≡ row * h) (ha : at ≡ 4 * to) where
   even : 2 * row * w ≡ at

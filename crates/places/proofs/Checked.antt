@@ -4,7 +4,8 @@
 --     frame-taken                 the frame, and the last check
 --     nearest-taken, count-taken
 --     within                      the row and the column of a word
-use Prim.Native.Nat.{ℕ, _*_, _/_, _%_, _≤_, _<_}
+--     row-room                    a row of the frame is within the words
+use Prim.Native.Nat.{ℕ, _+_, _*_, _/_, _%_, _≤_, _<_}
 use mathlib.Core.Bool.{true, false, not, _&&_}
 use mathlib.Core.List.{List}
 use mathlib.Core.Path.{_≡_}
@@ -12,6 +13,7 @@ use native.Mathlib.Nat.{mod-lt, div-lt-iff-lt-mul, mul-comm}
 use borrow.Author.Tests.{not-false, eqb-true, ltb-true, leb-true}
 use lib.Dec.{eqb, ltb, leb}
 use lib.ListN.{length}
+use Rattle.laws.proofs.Numbers.{room}
 use Rattle.laws.proofs.Tests.{and-true}
 use Rattle.checks.specs.declared.Answer.{Answer}
 use Rattle.checks.specs.declared.Answer.the-variants.{Taken}
@@ -66,3 +68,6 @@ module _ (words : List ℕ) (width height : ℕ) where
   within whole some j h =
       let l : j < height * width = rw (mul-comm height width, ← whole) h in
       ((div-lt-iff-lt-mul {k = width} {x = j} {y = height} some) .1 l, mod-lt j some)
+
+  pub row-room : length words ≡ width * height → (row : ℕ) → row < height → row * width + width ≤ length words
+  row-room whole row h = rw (whole, mul-comm width height) (room row height width h)

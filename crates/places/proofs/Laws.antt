@@ -1,10 +1,10 @@
 -- The laws of the two operations.
-use Prim.Native.Nat.{ℕ, _+_, _-_, _*_, _/_, _%_, _≤_, _<_}
+use Prim.Native.Nat.{ℕ, _+_, _-_, _/_, _%_, _<_}
 use mathlib.Core.Bool.{true, false, cond, _&&_}
 use mathlib.Core.List.{List}
 use mathlib.Core.Logic.{_⊎_, inl, inr}
 use mathlib.Core.Path.{_≡_, refl, sym, ap, subst, _∙_}
-use native.Mathlib.Nat.{div-add-mod', mul-pos, mul-le-mul-right, mul-comm, suc-mul, add-zero}
+use native.Mathlib.Nat.{div-add-mod', mul-pos, add-zero}
 use native.Mathlib.Omega.{arith}
 use borrow.Author.Tests.{ltb-true, ltb-false, lt-ltb, le-leb, leb-true}
 use lib.Dec.{ltb, leb}
@@ -26,7 +26,7 @@ use Rattle.places.specs.Checks.{nearestChecks, countChecks}
 use Rattle.places.specs.Finding.{nearestAt, distanceFrom, placed, nearestOf}
 use Rattle.places.specs.Counting.{howMany, inBox, flagWithin, countOf}
 use Rattle.places.specs.Laws.{NotAfter, NearestFlag, Exactly, FlagLaws}
-use Rattle.places.proofs.Checked.{Framed, Inside, inside-parts, nearest-taken, count-taken, within}
+use Rattle.places.proofs.Checked.{Framed, Inside, inside-parts, nearest-taken, count-taken, within, row-room}
 use Rattle.places.proofs.Counts.{many-same, many-within}
 use Rattle.places.proofs.Flagged.{flag-below}
 use Rattle.places.proofs.Nearness.{Best, Says, nearest-says, nearest-is, nearest-none}
@@ -38,9 +38,7 @@ module _ (words : List ℕ) (width height : ℕ) where
     place-back = rw (quotient width (p .row) (p .column) (i .column), rest width (p .row) (p .column) (i .column))
 
     index-below : indexOf width p < length words
-    index-below =
-        let l : p .row * width + width ≤ height * width = rw (← suc-mul (p .row) width) (mul-le-mul-right width (i .row)) in
-        omega (arith, f .whole, mul-comm width height, i .column)
+    index-below = omega (arith, row-room words width height (f .whole) (p .row) (i .row), i .column)
 
   module _ (place : Place) (taken : verdict (nearestChecks words width height place) ≡ Taken) where
     abbrev frame : Framed words width height

@@ -10,14 +10,15 @@ use Rattle.laws.proofs.Parts.{part-length}
 use Rattle.checks.specs.declared.Found.the-variants.{At}
 use Rattle.places.specs.Places.{flagAt, apart}
 use Rattle.places.specs.Finding.{nearestAt}
+use Rattle.places.proofs.Checked.{row-room}
 use Rattle.places.proofs.Nearness.{nearest-below}
-use Rattle.flag_search.proofs.RowKeys.{row-room, row-found, row-none}
+use Rattle.flag_search.proofs.RowKeys.{row-found, row-none}
 use Rattle.flag_search.proofs.row_key.Statement.{statement}
 use Rattle.flag_search.proofs.row_key.Tie as tie
 
 -- the row is within the words
 room : (s : tie.Start) → s .args .row * s .args .width + s .args .width ≤ length (now (s .args .words))
-room s = row-room (now (s .args .words)) (s .args .width) (s .args .height) (s .args .place) (s .pre .0) (s .args .row) (s .pre .1)
+room s = row-room (now (s .args .words)) (s .args .width) (s .args .height) (s .pre .0 .whole) (s .args .row) (s .pre .1)
 
 mul-start : tie.Need-mul-start
 mul-start c = omega (arith, room (c .before), c .before .pre .0 .few)
@@ -73,13 +74,13 @@ returns c =
     let d = c .before .before .before in
     let a = s d .args in
     rw (c .key .ensures, c .before .apart2 .ensures, c .before .before .apart .ensures)
-    (row-found (now (a .words)) (a .width) (a .height) (a .place) (s d .pre .0) (a .row) (s d .pre .1) (column d) (found d))
+    (row-found (now (a .words)) (a .width) (a .height) (a .place) (s d .pre .0) (a .row) (column d) (found d))
 
 returns-2 : tie.Need-returns-2
 returns-2 c =
     let s = c .before .before .before .before .before in
     let a = s .args in
-    row-none (now (a .words)) (a .width) (a .height) (a .place) (s .pre .0) (a .row) (s .pre .1) (sym (told (c .before .before)) ∙ c .enum-told .given .1)
+    row-none (now (a .words)) (a .width) (a .height) (a .place) (s .pre .0) (a .row) (sym (told (c .before .before)) ∙ c .enum-told .given .1)
 
 pub row-key-spec : {M : Type 1} → statement M
 row-key-spec =

@@ -11,11 +11,12 @@ use lib.IntN.{pos}
 use denote.Ref.{now}
 use Rattle.laws.specs.Lists.{each}
 use Rattle.laws.proofs.Each.{each-part}
+use Rattle.laws.proofs.Numbers.{room}
 use Rattle.laws.proofs.Parts.{part-length, part-keeps}
 use Rattle.encoding.specs.Frame.{wordAt, frameOf}
 use Rattle.entries.specs.Range.{entryInRange}
 use Rattle.layout.specs.Requires.{rowWord}
-use Rattle.layout.proofs.Squares.{room, row-word}
+use Rattle.layout.proofs.Squares.{row-word}
 use Rattle.encoding.proofs.Grid.{sides}
 use Rattle.layout.proofs.write_squares.Statement.{statement}
 use Rattle.layout.proofs.write_squares.Tie as tie
