@@ -36,7 +36,7 @@ pub fn begin(b: &Board) -> Result<Settings, Refusal> {
     }
     let mut s = Settings {
         weights: [-4, -3, -2, -1, 0, 1, 2, 3, 4],
-        threshold: MAX_READING,
+        threshold: 13_087,
         truncation: 2,
         samples: 9,
     };

@@ -13,6 +13,18 @@ static void expect(bool ok, const char *what) {
     }
 }
 
+/* A record that sets nothing: the default threshold marks a reading of 13,088, and none of 13,087. */
+static void defaults(void) {
+    const uint8_t record[] = {0x00, 0x00};
+    uint16_t readings[9] = {13087, 13087, 13087, 13087, 13087, 13087, 13087, 13087, 13087};
+    int32_t sum = 77;
+    uint16_t word = 7;
+    size_t place = 5;
+    expect(ramp_frame(1, 1, false, record, 2, readings, 9, &sum, 1, &word, 1, &place) == 0 && sum == 128 && word == 32, "13,087 and the defaults");
+    readings[8] = 13088;
+    expect(ramp_frame(1, 1, false, record, 2, readings, 9, &sum, 1, &word, 1, &place) == 0 && word == 32761, "13,088 and the defaults");
+}
+
 /* A ramp of nine samples on 4 x 2 pixels, with marks: fed in parts of every length it leaves the sums and words that ramp_frame leaves. */
 static void in_parts(bool binned) {
     const uint8_t record[] = {0x00, 0x02, 0x00, 0x30}; /* threshold 12,288; the default weights, r and N */
@@ -169,13 +181,13 @@ static void refused_flags(void) {
 }
 
 int main(void) {
-    const uint8_t record[] = {0x01, 0x08, 0x01, 0x01}; /* weight 1 is 1, N is 1 */
+    const uint8_t record[] = {0x01, 0x0A, 0x01, 0xFF, 0x3F, 0x01}; /* weight 1 is 1, the threshold 16,383, N is 1 */
     const uint16_t readings[] = {0, 16383, 16384};
     int32_t sums[2] = {77, 77};
     uint16_t words[2] = {7, 7};
     size_t place = 5;
 
-    expect(ramp_frame(2, 1, false, record, 4, readings, 2, sums, 2, words, 2, &place) == 0, "a frame is taken");
+    expect(ramp_frame(2, 1, false, record, 6, readings, 2, sums, 2, words, 2, &place) == 0, "a frame is taken");
     expect(place == 0 && sums[0] == 128 && sums[1] == 16511, "the sums of the frame");
     expect(words[0] == 32 && words[1] == 4127, "the words of the frame");
 
@@ -183,15 +195,16 @@ int main(void) {
     uint16_t words_before[2];
     memcpy(sums_before, sums, sizeof sums);
     memcpy(words_before, words, sizeof words);
-    expect(ramp_frame(2, 1, false, record, 4, readings + 1, 2, sums, 2, words, 2, &place) == 13 && place == 1, "13 and its place");
-    expect(ramp_frame(0, 1, false, record, 4, readings, 2, sums, 2, words, 2, &place) == 1 && place == 0, "1");
+    expect(ramp_frame(2, 1, false, record, 6, readings + 1, 2, sums, 2, words, 2, &place) == 13 && place == 1, "13 and its place");
+    expect(ramp_frame(0, 1, false, record, 6, readings, 2, sums, 2, words, 2, &place) == 1 && place == 0, "1");
     expect(ramp_frame(2, 1, false, record, 1, readings, 2, sums, 2, words, 2, &place) == 2, "2");
-    expect(ramp_frame(2, 1, false, record, 4, readings, 2, sums, 1, words, 2, &place) == 11, "11");
-    expect(ramp_frame(2, 1, false, record, 4, readings, 3, sums, 2, words, 2, &place) == 12, "12");
-    expect(ramp_frame(2, 1, false, record, 4, readings, 1, sums, 2, words, 2, &place) == 15, "15");
-    expect(ramp_frame(2, 1, false, record, 4, readings, 2, sums, 2, words, 1, &place) == 16, "16");
+    expect(ramp_frame(2, 1, false, record, 6, readings, 2, sums, 1, words, 2, &place) == 11, "11");
+    expect(ramp_frame(2, 1, false, record, 6, readings, 3, sums, 2, words, 2, &place) == 12, "12");
+    expect(ramp_frame(2, 1, false, record, 6, readings, 1, sums, 2, words, 2, &place) == 15, "15");
+    expect(ramp_frame(2, 1, false, record, 6, readings, 2, sums, 2, words, 1, &place) == 16, "16");
     expect(memcmp(sums, sums_before, sizeof sums) == 0 && memcmp(words, words_before, sizeof words) == 0, "refusals leave the buffers");
 
+    defaults();
     in_parts(false);
     in_parts(true);
     refused_steps();

@@ -6,7 +6,7 @@ mod ramp_frame;
 use ramp_frame::{count_flags, feed, frame, nearest_flag, read_out, Refusal};
 
 fn main() {
-    let record = [0x01, 0x08, 0x01, 0x01]; // weight 1 is 1, N is 1
+    let record = [0x01, 0x0A, 0x01, 0xFF, 0x3F, 0x01]; // weight 1 is 1, the threshold 16,383, N is 1
     let mut sums = [77i32; 2];
     let mut words = [7u16; 2];
     assert_eq!(frame(2, 1, false, &record, &[0, 16383], &mut sums, &mut words), Ok(()));

@@ -16,8 +16,8 @@ from draws import (
 )
 from ramp import Settings, updated
 
-# Two pixels, one sample of weight 1, the readings 0 and 16,383.
-EXAMPLE = bytes.fromhex("02 00 01 00 00 04 01 08 01 01 00 00 FF 3F")
+# Two pixels, threshold 16,383, one sample of weight 1, the readings 0 and 16,383.
+EXAMPLE = bytes.fromhex("02 00 01 00 00 06 01 0A 01 FF 3F 01 00 00 FF 3F")
 
 THIN = ((1, 1024), (1024, 1), (512, 2), (2, 512), (32, 32), (32, 32))
 

@@ -454,7 +454,8 @@ def many_words(writer: Writer) -> None:
     for truncation in (0, 4, 255):
         writer.say("word", draws.choose(WORDS), truncation)
     writer.open(1, 1, 0)
-    for threshold in (13_087, 13_088, draws.below(16_384)):
+    writer.say("covered")
+    for threshold in (13_088, 13_087, draws.below(16_384)):
         writer.say("update", *encode_record({9: threshold}))
         writer.say("covered")
         writer.say("start")

@@ -32,7 +32,7 @@ class Settings:
     """Nine weights, threshold, truncation r and sample count N; the defaults."""
 
     weights: tuple[int, ...] = (-4, -3, -2, -1, 0, 1, 2, 3, 4)
-    threshold: int = MAX_READING
+    threshold: int = 13_087
     truncation: int = 2
     samples: int = 9
 

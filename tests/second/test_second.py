@@ -102,14 +102,14 @@ class KnownRamps(unittest.TestCase):
         self.assertEqual(one_pixel({0: 17, 11: 1}, [129]), (-1, NEGATIVE))
 
     def test_wrapping(self) -> None:
-        weights = {bit: 15 for bit in range(9)}
+        largest = {**{bit: 15 for bit in range(9)}, 9: 16_383}
         full = [16_383] * 9
-        self.assertEqual(one_pixel({**weights, 10: 2}, full), (2_211_833, 28_670))
-        self.assertEqual(one_pixel({**weights, 10: 3}, full), (2_211_833, 14_335))
+        self.assertEqual(one_pixel({**largest, 10: 2}, full), (2_211_833, 28_670))
+        self.assertEqual(one_pixel({**largest, 10: 3}, full), (2_211_833, 14_335))
         self.assertEqual(one_pixel({0: 15, 11: 1}, [8_726]), (131_018, 32_754))
         self.assertEqual(read_word(32_754, 2), ("saturated", 2))
         self.assertEqual(word_of([32_768 * 4 + 9], 2), 2)
-        for fields in ({**weights, 10: 2}, {**weights, 10: 3}, {0: 15, 11: 1}):
+        for fields in ({**largest, 10: 2}, {**largest, 10: 3}, {0: 15, 11: 1}):
             settings = updated(Settings(), encode_record(fields))
             assert isinstance(settings, Settings)
             self.assertFalse(settings.covered())
@@ -125,7 +125,7 @@ class KnownRamps(unittest.TestCase):
     def test_records(self) -> None:
         record = bytes.fromhex("00 06 1F 33 03")
         expected = Settings(threshold=13_087, truncation=3)
-        self.assertEqual(updated(Settings(), record), expected)
+        self.assertEqual(updated(Settings(threshold=1), record), expected)
         self.assertEqual(updated(Settings(), [0, 0]), Settings())
         for byte, weight in ((20, -4), (31, -15), (16, 0), (15, 15)):
             settings = updated(Settings(), [1, 0, byte])
@@ -136,17 +136,24 @@ class KnownRamps(unittest.TestCase):
         self.assertTrue(Settings(threshold=13_087).covered())
         self.assertFalse(Settings(threshold=13_088).covered())
 
+    def test_defaults(self) -> None:
+        self.assertIs(opened(1, 1).covered(), True)
+        readings = [13_087] * 9
+        self.assertEqual(one_pixel({}, readings), (128, 32))
+        readings[8] = 13_088
+        self.assertEqual(one_pixel({}, readings), (MARK + 9, 32_761))
+
     def test_update_waits_for_the_next_start(self) -> None:
         board = opened(1, 1)
-        board.update([0, 6, 0x1F, 0x33, 3])
+        board.update([0, 6, 0x1F, 0x33, 1])
         self.assertEqual(board.in_force, Settings())
-        self.assertIs(board.covered(), False)
+        self.assertIs(board.covered(), True)
         board.start()
         board.update([0, 8, 1])
         self.assertEqual((board.in_force.samples, board.waiting.samples), (9, 1))
-        self.assertIs(board.covered(), True)
+        self.assertIs(board.covered(), False)
         board.drop()
-        self.assertEqual(board.in_force.truncation, 3)
+        self.assertEqual(board.in_force.truncation, 1)
         self.assertEqual(board.waiting.samples, 1)
 
 

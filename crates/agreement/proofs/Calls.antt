@@ -79,6 +79,5 @@ module _ (w h : ℕ) (binned : Bool) (bytes xs : List ℕ) (sums : List ℤ) (ou
   unfolding moments frameWords
   frame-claim c =
       rw (taken)
-      (rw (last-two .1) at (demands .demand-3 .frames w h binned (first-three .0) calls .1 .1 .1 .0 left output
-      (record { brings = refl; taken = read-out-taken; handed-on = rw (feed-taken, start-taken) (tt, refl) })
-      (rw (answers .1 .1 .1 .0 .before) c)))
+      (rw (last-two .1) at (demands .demand-3 .frames w h binned (first-three .0) calls .1 .1 .1 .0 (rw (answers .1 .1 .1 .0 .before) c) left output
+      (record { brings = refl; taken = read-out-taken; handed-on = rw (feed-taken, start-taken) (tt, refl) })))

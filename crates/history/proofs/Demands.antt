@@ -3,7 +3,8 @@ use Rattle.history.specs.Demands.{Demands}
 use Rattle.history.proofs.Lists.{demand-1, demand-2, no-false-word, never-damaged}
 use Rattle.history.proofs.Places.{places}
 use Rattle.history.proofs.Coverage.{covered-exactly}
-use Rattle.history.proofs.Reaches.{reached}
+use Rattle.history.proofs.Reaches.{reached, reached-unchanged}
+use Rattle.history.proofs.Unchanged.{opened-covered, never-updated}
 
 pub demands : Demands
 demands = record {
@@ -13,4 +14,5 @@ demands = record {
   demand-3 = record { frames = no-false-word; covered-exactly = covered-exactly };
   honest = never-damaged;
   reached = reached;
+  defaults-covered = record { opened = opened-covered; frames = never-updated; reached = reached-unchanged };
 }

@@ -7,6 +7,7 @@ pub mod Honest
 pub mod Coverage
 pub mod Frames
 pub mod Lists
+pub mod Unchanged
 pub mod Ramps
 pub mod Reaches
 pub mod Demands

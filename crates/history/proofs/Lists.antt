@@ -5,7 +5,7 @@
 use mathlib.Core.List.{List, [], _∷_}
 use mathlib.Core.Path.{refl}
 use Rattle.history.specs.Calls.{Call, Ledger, viewOf, Allowed, Moment, moments}
-use Rattle.history.specs.Demands.{Every, Always, Demand1, Demand2, NoFalseWord, Honest}
+use Rattle.history.specs.Demands.{Every, Always, Demand1, Demand2, NoFalseWord, SaidCovered, Honest}
 use Rattle.history.proofs.Ledgers.{opened-is, answer-is, board-is, gives-is}
 use Rattle.history.proofs.Invariant.{Good, opened-good, keeps}
 use Rattle.history.proofs.Honest.{honest}
@@ -29,8 +29,8 @@ demand-1 = always Demand1 (λ ℓ allowed good c. record { before = refl; answer
 pub demand-2 : Always Demand2
 demand-2 = always Demand2 (λ ℓ allowed good c sums output t. frame-is good sums output (rw (t .brings) at (t .taken)) (t .handed-on))
 
-pub no-false-word : Always NoFalseWord
-no-false-word = always NoFalseWord (λ ℓ allowed good c sums output t. frame-claim good sums output (rw (t .brings) at (t .taken)) (t .handed-on))
+pub no-false-word : Always (λ m. SaidCovered m → NoFalseWord m)
+no-false-word = always _ (λ ℓ allowed good c said sums output t. frame-claim good sums output (rw (t .brings) at (t .taken)) (t .handed-on) said)
 
 pub never-damaged : Always Honest
 never-damaged = always Honest (λ ℓ allowed. honest)

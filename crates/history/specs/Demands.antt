@@ -10,7 +10,7 @@ use lib.ListN.{length, getD}
 use lib.Signed.{leZ, ltZ, _≤ℤ_}
 use Rattle.laws.specs.Lists.{every, total}
 use Rattle.settings.specs.declared.Settings.{Settings}
-use Rattle.settings.specs.Settings.{inRange}
+use Rattle.settings.specs.Settings.{defaults, inRange}
 use Rattle.settings.specs.Covered.{ceiling, isCovered}
 use Rattle.checks.specs.declared.Answer.{Answer}
 use Rattle.checks.specs.declared.Answer.the-variants.{Taken, Refused}
@@ -107,12 +107,15 @@ pub record FrameClaim (ℓ : Ledger) (answer : Answer) (frame : List ℕ) : Type
   pub whole : length frame ≡ words ℓ
   pub word : (j : ℕ) → j < words ℓ → WordClaim ℓ (pixels ℓ j) (readWord (ℓ .inForce .truncation) (getD frame j 0))
 
--- at one call: where Covered says "covered" of the board that the Read out gets, no word of the frame is false
+-- at one call: no word of the frame is false
 abbrev pub NoFalseWord : Moment → Type 0
 NoFalseWord m =
     (sums : List ℤ) (output : List ℕ) → TakenReadOut m sums output
-    → coverageOf (m .board) ≡ Covered
     → FrameClaim (m .ledger) (readOutOf (m .board) sums output .answer) (readOutWords (m .board) sums output)
+
+-- Covered says "covered" of the board that the call gets
+abbrev pub SaidCovered : Moment → Type 0
+SaidCovered m = coverageOf (m .board) ≡ Covered
 
 -- the last sentence, of every sound board: "covered" exactly when no N readings at or below the threshold, one per sample, have an exact sum of
 -- 32,752 × 2^r or more
@@ -126,7 +129,8 @@ CoveredExactly =
 
 -- in one piece
 pub record Demand3 : Type 0 where
-  pub frames : Always NoFalseWord
+  -- where Covered says "covered" of the board that the Read out gets, no word of its frame is false
+  pub frames : Always (λ m. SaidCovered m → NoFalseWord m)
   pub covered-exactly : CoveredExactly
 
 -- ---- an honest list is not turned away
@@ -190,6 +194,24 @@ pub record Reached (w h : ℕ) (binned : Bool) (s : Settings) (cut : List (List 
   pub feeds : fedBy calls ≡ cut
   pub reads-out : Some (ReadsOut s (joined cut)) (played w h binned calls)
 
+-- ---- a board that no Update has changed
+
+-- at one call: it is no Update that is taken
+abbrev pub NoTakenUpdate : Moment → Type 0
+NoTakenUpdate m = (bytes : List ℕ) → m .call ≡ update bytes → refusal (m .ledger) (m .call) ≡ Taken → ⊥
+
+pub record DefaultsCovered : Type 1 where
+  -- Covered says "covered" of every board that Open gives
+  pub opened : (w h : ℕ) (binned : Bool) → openOf w h binned .answer ≡ Taken → coverageOf (openOf w h binned .board) ≡ Covered
+  -- in a list of calls with no taken Update Covered says it of the board that each call gets, and no word of any frame is false
+  pub frames : (w h : ℕ) (binned : Bool) → openOf w h binned .answer ≡ Taken → (calls : List Call)
+      → Every NoTakenUpdate (played w h binned calls)
+      → Every (λ m. SaidCovered m × NoFalseWord m) (played w h binned calls)
+  -- such a list can read out any N × M readings in range, in any cut into Feeds
+  pub reached : (w h : ℕ) (binned : Bool) → openOf w h binned .answer ≡ Taken
+      → (cut : List (List ℕ)) → length (joined cut) ≡ defaults .samples * (w * h) → every readingInRange (joined cut) ≡ true
+      → (list : Reached w h binned defaults cut) × Every NoTakenUpdate (played w h binned (list .calls))
+
 -- ---- all demands
 
 pub record Demands : Type 1 where
@@ -204,3 +226,4 @@ pub record Demands : Type 1 where
       → (s : Settings) → inRange s ≡ true
       → (cut : List (List ℕ)) → length (joined cut) ≡ s .samples * (w * h) → every readingInRange (joined cut) ≡ true
       → Reached w h binned s cut
+  pub defaults-covered : DefaultsCovered

@@ -40,15 +40,15 @@ AllHold (row ∷ rows) = Holds row × AllHold rows
 abbrev single : ℤ → Settings
 single w = withSamples 1 (withWeights (set (defaults .weights) 0 w) defaults)
 
--- the defaults, save for the weights and r
+-- the defaults, save for the weights, r, and a threshold that marks nothing
 abbrev all15 : ℕ → Settings
-all15 r = withTruncation r (withWeights (replicate 9 (pos 15)) defaults)
+all15 r = withTruncation r (withThreshold 16383 (withWeights (replicate 9 (pos 15)) defaults))
 
 abbrev pub table : List Known
 table =
-    ramp defaults (replicate 9 1000) (pos 128) (pos 128) 32 (Ordinary (limit 128) (limit 132)) false
-    ∷ ramp defaults (100 ∷ 200 ∷ 300 ∷ 400 ∷ 500 ∷ 600 ∷ 700 ∷ 800 ∷ 900 ∷ []) (pos 6128) (pos 6128) 1532 (Ordinary (limit 6128) (limit 6132)) false
-    ∷ ramp defaults (900 ∷ 800 ∷ 700 ∷ 600 ∷ 500 ∷ 400 ∷ 300 ∷ 200 ∷ 100 ∷ []) (negℤ (pos 5872)) (negℤ (pos 5872)) 32767 Negative false
+    ramp defaults (replicate 9 1000) (pos 128) (pos 128) 32 (Ordinary (limit 128) (limit 132)) true
+    ∷ ramp defaults (100 ∷ 200 ∷ 300 ∷ 400 ∷ 500 ∷ 600 ∷ 700 ∷ 800 ∷ 900 ∷ []) (pos 6128) (pos 6128) 1532 (Ordinary (limit 6128) (limit 6132)) true
+    ∷ ramp defaults (900 ∷ 800 ∷ 700 ∷ 600 ∷ 500 ∷ 400 ∷ 300 ∷ 200 ∷ 100 ∷ []) (negℤ (pos 5872)) (negℤ (pos 5872)) 32767 Negative true
     ∷ ramp (withThreshold 13000 defaults) (13000 ∷ 13000 ∷ 13001 ∷ 13000 ∷ 13000 ∷ 13000 ∷ 13001 ∷ 13000 ∷ 13000 ∷ []) (pos 128) (mark 3) 32755 (Saturated 3) true
     ∷ ramp (withThreshold 13000 defaults) (replicate 9 13000) (pos 128) (pos 128) 32 (Ordinary (limit 128) (limit 132)) true
     ∷ ramp (single (negℤ (pos 1))) (128 ∷ []) (pos 0) (pos 0) 0 (Ordinary (limit 0) (limit 4)) true

@@ -35,7 +35,7 @@ use Rattle.job.specs.Kept.{capacity}
 use Rattle.job.specs.Job.{jobAnswer, jobWords, columnsOf, truncationOf, Result}
 use Rattle.job.proofs.Laws as Jobs
 use Rattle.report.specs.Text.{header, textOf}
-use Rattle.report.specs.Laws.{firstLine, secondLine, ReportLaws}
+use Rattle.report.specs.Laws.{example, firstLine, secondLine, ReportLaws}
 use Rattle.report.proofs.Jobs.{text-is}
 
 -- a result of an input
@@ -64,14 +64,11 @@ prefix bytes =
     let r = is-result (take capacity bytes) (length bytes) in
     sym (text-is (take capacity bytes) (length bytes) job r) ∙ text-is bytes (length bytes) job (Jobs.laws .prefix bytes job r)
 
-example : List ℕ
-example = 0x02 ∷ 0x00 ∷ 0x01 ∷ 0x00 ∷ 0x00 ∷ 0x04 ∷ 0x01 ∷ 0x08 ∷ 0x01 ∷ 0x01 ∷ 0x00 ∷ 0x00 ∷ 0xFF ∷ 0x3F ∷ []
-
-taken : jobAnswer example 14 ≡ Taken
+taken : jobAnswer example (length example) ≡ Taken
 unfolding example jobAnswer verdict sidesTaken frameAnswer openOf updateOf startOf feedOf fedSums readOutOf sound inRange every anyOf stands fieldOf placeOf weightOf Update.updateOf withBits each firstPlace possibleAfter feedAll feedOne step pairs
 taken = refl
 
-words : jobWords example 14 ≡ 32 ∷ 4127 ∷ []
+words : jobWords example (length example) ≡ 32 ∷ 4127 ∷ []
 unfolding example jobWords frameWords jobAnswer verdict sidesTaken frameAnswer openOf updateOf startOf feedOf fedSums readOutOf readOutWords sound inRange every anyOf stands fieldOf placeOf weightOf Update.updateOf withBits each firstPlace possibleAfter feedAll feedOne step pairs frameOf pixelsOf wordAt smallestMark sampleOf isNegative total
 words = refl
 
@@ -87,10 +84,9 @@ second-line : lineText 0 1 2 4127 ≡ secondLine
 unfolding decimal digitCount
 second-line = rw (TextLaws.laws .ordinary-text 2 4127 refl (omega arith))
 
-known-text : textOf example 14 ≡ header ++ (firstLine ++ secondLine)
+known-text : textOf example (length example) ≡ header ++ (firstLine ++ secondLine)
 unfolding example linesText textOf
 known-text = rw (taken, words, truncation, first-line, second-line)
 
 pub laws : ReportLaws
-unfolding example
 laws = record { prefix = prefix; known-text = known-text }

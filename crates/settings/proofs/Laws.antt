@@ -9,6 +9,7 @@ pub laws : SettingsLaws
 unfolding inRange every positives isCovered
 laws = record {
   defaults-in-range = refl;
+  defaults-covered = refl;
   known-reach = (refl, refl, refl);
-  known-covered = (refl, refl);
+  known-uncovered = refl;
 }

@@ -7,11 +7,11 @@ use lib.ListN.{getD}
 pub use Rattle.ranges.specs.Ranges.{maxWeight, weightInRange, maxThreshold, thresholdInRange, truncationInRange, maxSamples, samplesInRange, weightsInRange}
 use Rattle.settings.specs.declared.Settings.{Settings}
 
--- the settings at opening: weights −4 to 4, threshold 16,383, r = 2, N = 9
+-- the settings at opening: weights −4 to 4, threshold 13,087, r = 2, N = 9
 abbrev pub defaults : Settings
 defaults = record {
   weights = negℤ (pos 4) ∷ negℤ (pos 3) ∷ negℤ (pos 2) ∷ negℤ (pos 1) ∷ pos 0 ∷ pos 1 ∷ pos 2 ∷ pos 3 ∷ pos 4 ∷ [];
-  threshold = 16383;
+  threshold = 13087;
   truncation = 2;
   samples = 9;
 }

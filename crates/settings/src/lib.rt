@@ -17,10 +17,10 @@ pub struct Settings {
 }
 
 impl Settings {
-    // The defaults: -4 to 4 for the weights, a threshold that marks nothing, r = 2 and N = 9.
+    // The defaults: -4 to 4 for the weights, the largest threshold at which they are covered, r = 2 and N = 9.
     pub const WEIGHTS: [i32; 9] = [-4, -3, -2, -1, 0, 1, 2, 3, 4];
 
-    pub const THRESHOLD: u16 = 16383;
+    pub const THRESHOLD: u16 = 13087;
 
     pub const TRUNCATION: u16 = 2;
 

@@ -1,6 +1,6 @@
 -- The laws of a step.
 use borrow.Author.Tests.{leb-true, le-ltb}
-use Rattle.settings.specs.Settings.{defaults}
+use Rattle.settings.specs.Settings.{maxThreshold}
 use Rattle.readings.specs.Readings.{maxReading}
 use Rattle.settings.proofs.Parts.{in-range-parts}
 use Rattle.step.specs.Laws.{StepLaws}
@@ -8,6 +8,6 @@ use Rattle.step.proofs.Steps.{possible-step}
 
 pub laws : StepLaws
 laws = record {
-  defaults-mark-nothing = λ n x e. le-ltb (defaults .threshold) x (leb-true x maxReading e);
+  largest-marks-nothing = λ s e n x ok. rw e (le-ltb maxThreshold x (leb-true x maxReading ok));
   stays-possible = λ s r. possible-step s (in-range-parts s r);
 }
