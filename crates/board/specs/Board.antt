@@ -1,6 +1,6 @@
 -- A board, what *sound* means, and what opening, the end of a ramp and a refusal leave.
 use Prim.Native.Nat.{ℕ, _*_}
-use mathlib.Core.Bool.{Bool, true, false, not, _&&_, _||_}
+use mathlib.Core.Bool.{Bool, false, not, _&&_, _||_}
 use lib.Dec.{leb, eqb}
 use Rattle.sides.specs.Sides.{ofSides}
 unfoldable pub use Rattle.sides.specs.Sides.{sidesTaken}

@@ -5,7 +5,7 @@
 --     after-box       none after its last row
 --     row-more, rows-done     a turn of the loop, and its end
 use Prim.Native.Nat.{ℕ, _+_, _-_, _*_, _/_, _≤_, _<_}
-use mathlib.Core.Bool.{Bool, true, false, _&&_}
+use mathlib.Core.Bool.{Bool, false, _&&_}
 use mathlib.Core.List.{List}
 use mathlib.Core.Path.{_≡_, sym, ap, subst, _∙_}
 use native.Mathlib.Nat.{div-lt-iff-lt-mul, mul-le-mul-right, suc-mul, add-mul, one-mul}

@@ -4,7 +4,7 @@ use mathlib.Core.Bool.{true}
 use Prim.Native.Nat.{_+_, _-_, _/_}
 use native.Mathlib.Nat.{add-sub-cancel-left, sub-zero}
 use borrow.Author.Needs.{needs}
-use lib.IntN.{ℤ, pos, _-ℤ_}
+use lib.IntN.{pos, _-ℤ_}
 use lib.ListN.{length, take, drop}
 use denote.Ref.{now}
 use mir.Syntax.{w32}

@@ -9,8 +9,6 @@ use lib.ListN.{length, take, getD, set, length-set}
 use lib.Seq.{take-all}
 use denote.Ref.{now}
 use mir.Syntax.{w32}
-use mir.Val.{toZ, ofZ}
-use mir.Facts.{toZ-ofZ}
 use Rattle.laws.specs.Lists.{over}
 use Rattle.laws.proofs.Ints.{back}
 use Rattle.laws.proofs.Every.{every-at}
