@@ -1,4 +1,5 @@
 -- The board that a ledger shows, and demand 1: a call on it, with a clause for each call.
+--     found           what a call finds on it
 --     opened-is       the board that Open gave is the one that the fresh ledger shows
 --     answer-is       it answers what the ledger's checks say
 --     board-is        it leaves the board that the next ledger shows
@@ -22,8 +23,11 @@ use Rattle.operations.specs.Feed.{feedOf, fedSums}
 use Rattle.operations.specs.ReadOut.{readOutOf, readOutWords}
 use Rattle.operations.specs.Covered.{coveredChecks, orRefused, coverageOf}
 use Rattle.operations.proofs.Laws.{laws}
-use Rattle.history.specs.Calls.{Call, update, start, feed, readOut, drop, covered, Ledger, fresh, viewOf, refusal, effect, next, answerOf, outcomeOf}
+use Rattle.history.specs.Calls.{Call, update, start, feed, readOut, drop, covered, Ledger, fresh, viewOf, refusal, effect, next, answerOf, outcomeOf, Allowed, Moment}
 use Rattle.history.specs.Demands.{Gives}
+
+abbrev pub found : Ledger → Allowed → Call → Moment
+found ℓ allowed c = record { ledger = ℓ; board = viewOf ℓ; allowed = allowed; call = c }
 
 pub opened-is : (w h : ℕ) (binned : Bool) → openOf w h binned .answer ≡ Taken → openOf w h binned .board ≡ viewOf (fresh w h binned)
 unfolding openOf

@@ -31,7 +31,7 @@ use Rattle.operations.proofs.Says.{says}
 use Rattle.history.specs.Calls.{Call, update, start, feed, readOut, Ledger, fresh, viewOf, refusal, effect, Allowed, anySums, afterTaken, Moment, moments}
 use Rattle.history.specs.Readings.{area, words}
 use Rattle.history.specs.Demands.{Every, played, ReadsOut, Some, fedBy, joined, passable, Reached, NoTakenUpdate}
-use Rattle.history.proofs.Ledgers.{opened-is, board-is}
+use Rattle.history.proofs.Ledgers.{found, opened-is, board-is}
 use Rattle.history.proofs.Invariant.{Good, opened-good, taken-good}
 use Rattle.history.proofs.Ramps.{inBits, Ramp, blank, feed-goes, fed-ramp, read-goes}
 
@@ -45,7 +45,7 @@ record Goes (s : Settings) (xs : List ℕ) (ℓ : Ledger) (allowed : Allowed) (c
 
 -- what a taken call and the calls after it find
 after : (F : List Moment → Type 0) (ℓ : Ledger) (allowed : Allowed) (c : Call) (calls : List Call) → refusal ℓ c ≡ Taken
-    → F (record { ledger = ℓ; board = viewOf ℓ; allowed = allowed; call = c } ∷ moments (effect ℓ c) (viewOf (effect ℓ c)) (afterTaken (viewOf ℓ) c allowed) calls)
+    → F (found ℓ allowed c ∷ moments (effect ℓ c) (viewOf (effect ℓ c)) (afterTaken (viewOf ℓ) c allowed) calls)
     → F (moments ℓ (viewOf ℓ) allowed (c ∷ calls))
 unfolding moments
 after F ℓ allowed c calls t h = rw (board-is ℓ c, t) h

@@ -4,7 +4,7 @@
 --     never-updated        and in a list of calls with no taken Update, where demand 3 then speaks of every frame
 use Prim.Native.Nat.{ℕ}
 use mathlib.Core.Bool.{Bool}
-use mathlib.Core.List.{List, [], _∷_}
+use mathlib.Core.List.{List}
 use mathlib.Core.Path.{_≡_, refl}
 use Rattle.settings.specs.Settings.{defaults}
 use Rattle.settings.proofs.Laws.{laws}
@@ -15,11 +15,11 @@ use Rattle.board.specs.declared.Coverage.the-variants.{Covered}
 use Rattle.board.specs.Open.{openOf}
 use Rattle.operations.specs.Covered.{coverageOf}
 use Rattle.operations.proofs.Says.{covered-is}
-use Rattle.history.specs.Calls.{Call, update, start, feed, readOut, drop, covered, Ledger, fresh, viewOf, refusal, effect, refusedEffect, next, Allowed, Moment, moments}
+use Rattle.history.specs.Calls.{Call, update, start, feed, readOut, drop, covered, Ledger, fresh, viewOf, refusal, effect, refusedEffect, next, Allowed, anySums}
 use Rattle.history.specs.Demands.{Every, played, NoFalseWord, SaidCovered, NoTakenUpdate}
-use Rattle.history.proofs.Ledgers.{opened-is, board-is}
+use Rattle.history.proofs.Ledgers.{opened-is}
 use Rattle.history.proofs.Invariant.{Good, opened-good, keeps}
-use Rattle.history.proofs.Lists.{no-false-word}
+use Rattle.history.proofs.Lists.{played-out, covered-frame}
 
 record Defaults (ℓ : Ledger) : Type 0 where
   pub waiting : ℓ .waiting ≡ defaults
@@ -44,27 +44,17 @@ module _ {ℓ : Ledger} (d : Defaults ℓ) where
   said : {allowed : Allowed} → Good ℓ allowed → coverageOf (viewOf ℓ) ≡ Covered
   said good = covered-is (viewOf ℓ) (good .whole) .1 (rw (d .in-force) (laws .defaults-covered))
 
-said-of-each : (calls : List Call) {ℓ : Ledger} {allowed : Allowed} → Defaults ℓ → Good ℓ allowed
-    → Every NoTakenUpdate (moments ℓ (viewOf ℓ) allowed calls) → Every SaidCovered (moments ℓ (viewOf ℓ) allowed calls)
-unfolding moments
-said-of-each [] d good kept = tt
-said-of-each (c ∷ calls) {ℓ} d good kept =
-    (said d good, rw (board-is ℓ c) (said-of-each calls (stays d c (kept .0)) (keeps good c) (rw (board-is ℓ c) at (kept .1))))
-
--- what holds at each call, and what it brings with it
-both : (P Q : Moment → Type 0) (ms : List Moment) → Every P ms → Every (λ m. P m → Q m) ms → Every (λ m. P m × Q m) ms
-both P Q [] p q = tt
-both P Q (m ∷ ms) p q = ((p .0, q .0 (p .0)), both P Q ms (p .1) (q .1))
-
 module _ (w h : ℕ) (binned : Bool) (taken : openOf w h binned .answer ≡ Taken) where
-  at-opening : Defaults (fresh w h binned)
-  at-opening = record { waiting = refl; in-force = refl }
+  at-opening : Good (fresh w h binned) anySums × Defaults (fresh w h binned)
+  at-opening = (opened-good w h binned taken, record { waiting = refl; in-force = refl })
 
   pub opened-covered : coverageOf (openOf w h binned .board) ≡ Covered
-  opened-covered = rw (opened-is w h binned taken) (said at-opening (opened-good w h binned taken))
+  opened-covered = rw (opened-is w h binned taken) (said (at-opening .1) (at-opening .0))
 
-  pub never-updated : (calls : List Call) → Every NoTakenUpdate (played w h binned calls) → Every (λ m. SaidCovered m × NoFalseWord m) (played w h binned calls)
-  never-updated calls kept =
-      both SaidCovered NoFalseWord (played w h binned calls)
-      (rw (opened-is w h binned taken) (said-of-each calls at-opening (opened-good w h binned taken) (rw (opened-is w h binned taken) at kept)))
-      (no-false-word w h binned taken calls)
+pub never-updated : (w h : ℕ) (binned : Bool) → openOf w h binned .answer ≡ Taken → (calls : List Call)
+    → Every NoTakenUpdate (played w h binned calls) → Every (λ m. SaidCovered m × NoFalseWord m) (played w h binned calls)
+never-updated =
+    played-out NoTakenUpdate (λ ℓ allowed. Good ℓ allowed × Defaults ℓ) (λ m. SaidCovered m × NoFalseWord m)
+    (λ ℓ allowed i c k. (keeps (i .0) c, stays (i .1) c k))
+    (λ ℓ allowed i c k. let s = said (i .1) (i .0) in (s, covered-frame ℓ allowed (i .0) c s))
+    at-opening

@@ -196,14 +196,14 @@ pub record Reached (w h : ℕ) (binned : Bool) (s : Settings) (cut : List (List 
 
 -- ---- a board that no Update has changed
 
--- at one call: it is no Update that is taken
+-- at one call: no Update is taken
 abbrev pub NoTakenUpdate : Moment → Type 0
 NoTakenUpdate m = (bytes : List ℕ) → m .call ≡ update bytes → refusal (m .ledger) (m .call) ≡ Taken → ⊥
 
 pub record DefaultsCovered : Type 1 where
   -- Covered says "covered" of every board that Open gives
   pub opened : (w h : ℕ) (binned : Bool) → openOf w h binned .answer ≡ Taken → coverageOf (openOf w h binned .board) ≡ Covered
-  -- in a list of calls with no taken Update Covered says it of the board that each call gets, and no word of any frame is false
+  -- in a list of calls with no taken Update, Covered says so of the board that each call gets, and no word of any frame is false
   pub frames : (w h : ℕ) (binned : Bool) → openOf w h binned .answer ≡ Taken → (calls : List Call)
       → Every NoTakenUpdate (played w h binned calls)
       → Every (λ m. SaidCovered m × NoFalseWord m) (played w h binned calls)
