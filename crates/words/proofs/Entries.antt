@@ -1,7 +1,7 @@
 -- An entry in range, and its sample.
 --     apart, sample-range                a mark's sample, as the code takes it
 --     no-sample, none-both               an entry, or two, with no sample
-use Prim.Native.Nat.{ℕ, _≤_, min}
+use Prim.Native.Nat.{ℕ, min}
 use mathlib.Core.Bool.{Bool, true, false}
 use mathlib.Core.Option.{Option, none, some}
 use mathlib.Core.Path.{_≡_, refl, sym, ap, _∙_}

@@ -7,10 +7,6 @@ use Rattle.text.specs.Text.{decimal, space}
 use Rattle.text.proofs.Appended.{more}
 use Rattle.lines.proofs.put_field.Statement.{statement}
 use Rattle.lines.proofs.put_field.Tie as tie
-use Rattle.lines.proofs.put_field.Reads as reads
-use Rattle.lines.proofs.put_field.Lts as lts
-use Rattle.text.proofs.put.Reads as put-reads
-use Rattle.text.proofs.put_number.Reads as put-number-reads
 
 put-number-requires : tie.Need-put-number-requires
 put-number-requires c κs = search needs

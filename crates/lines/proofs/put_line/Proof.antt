@@ -13,12 +13,6 @@ use Rattle.text.proofs.Appended.{more, regrouped}
 use Rattle.text.proofs.Limits.{whole-limits}
 use Rattle.lines.proofs.put_line.Statement.{statement}
 use Rattle.lines.proofs.put_line.Tie as tie
-use Rattle.lines.proofs.put_line.Reads as reads
-use Rattle.lines.proofs.put_line.Lts as lts
-use Rattle.lines.proofs.put_field.Reads as put-field-reads
-use Rattle.text.proofs.put_meaning.Reads as put-meaning-reads
-use Rattle.text.proofs.put.Reads as put-reads
-use Rattle.meaning.proofs.read_word.Reads as read-word-reads
 
 put-field-requires : tie.Need-put-field-requires
 put-field-requires c κs = search needs

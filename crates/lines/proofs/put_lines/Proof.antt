@@ -11,9 +11,6 @@ use Rattle.lines.specs.Lines.{lineText, linesText}
 use Rattle.text.proofs.Appended.{append-nil, more}
 use Rattle.lines.proofs.put_lines.Statement.{statement}
 use Rattle.lines.proofs.put_lines.Tie as tie
-use Rattle.lines.proofs.put_lines.Reads as reads
-use Rattle.lines.proofs.put_lines.Lts as lts
-use Rattle.lines.proofs.put_line.Reads as put-line-reads
 
 abbrev Inv-loop : tie.InvT-loop
 Inv-loop out₀ at words count columns truncation end₀ i₀ out end i = (i ≤ count) × (length out ≡ length out₀) × (end ≤ at + i * 106) × (take end out ≡ take at out₀ ++ linesText columns truncation words i)

@@ -7,10 +7,6 @@ use lib.ListN.{length-take}
 use Rattle.report.proofs.Jobs.{text-is, fits}
 use Rattle.report.proofs.run.Statement.{statement}
 use Rattle.report.proofs.run.Tie as tie
-use Rattle.report.proofs.run.Reads as reads
-use Rattle.report.proofs.run.Lts as lts
-use Rattle.job.proofs.run.run.Reads as run-reads
-use Rattle.report.proofs.put_job.Reads as put-job-reads
 
 run-requires : tie.Need-run-requires
 run-requires c κs = search needs

@@ -10,11 +10,6 @@ use Rattle.text.specs.Text.{decimal, dots, wholeOf}
 use Rattle.text.proofs.Appended.{more}
 use Rattle.text.proofs.put_limits.Statement.{statement}
 use Rattle.text.proofs.put_limits.Tie as tie
-use Rattle.text.proofs.put_limits.Reads as reads
-use Rattle.text.proofs.put_limits.Lts as lts
-use Rattle.text.proofs.whole.Reads as whole-reads
-use Rattle.text.proofs.put.Reads as put-reads
-use Rattle.text.proofs.put_number.Reads as put-number-reads
 
 whole-requires : tie.Need-whole-requires
 whole-requires c κs = search needs

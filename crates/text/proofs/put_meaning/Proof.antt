@@ -9,12 +9,6 @@ use Rattle.text.specs.Requires.{WholeLimits}
 use Rattle.text.proofs.Appended.{more}
 use Rattle.text.proofs.put_meaning.Statement.{statement}
 use Rattle.text.proofs.put_meaning.Tie as tie
-use Rattle.text.proofs.put_meaning.Reads as reads
-use Rattle.text.proofs.put_meaning.Lts as lts
-use Rattle.text.proofs.put_limits.Reads as put-limits-reads
-use Rattle.text.proofs.put_refusal.Reads as put-refusal-reads
-use Rattle.text.proofs.put.Reads as put-reads
-use Rattle.text.proofs.put_number.Reads as put-number-reads
 
 enum-known-read : tie.Need-enum-known-read
 enum-known-read c = search needs

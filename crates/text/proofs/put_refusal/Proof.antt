@@ -7,10 +7,6 @@ use Rattle.text.specs.Text.{decimal, refused}
 use Rattle.text.proofs.Appended.{more}
 use Rattle.text.proofs.put_refusal.Statement.{statement}
 use Rattle.text.proofs.put_refusal.Tie as tie
-use Rattle.text.proofs.put_refusal.Reads as reads
-use Rattle.text.proofs.put_refusal.Lts as lts
-use Rattle.text.proofs.put.Reads as put-reads
-use Rattle.text.proofs.put_number.Reads as put-number-reads
 
 slice-aggregate-put : tie.Need-slice-aggregate-put
 slice-aggregate-put c = search needs
