@@ -13,7 +13,7 @@ ghost use Rattle.ramp.specs.Requires.{Feedable};
 use numbers::least;
 use settings::Settings;
 use step::Sample;
-use step::stepped;
+use step::accumulate;
 
 // Readings of one sample, and the entries of their pixels.
 fn feed_part(readings: &[u16], sums: &mut [i32], sample: Sample)
@@ -27,7 +27,7 @@ fn feed_part(readings: &[u16], sums: &mut [i32], sample: Sample)
 {
     let mut i = 0;
     while i < sums.len() {
-        sums[i] = stepped(sums[i], readings[i], sample);
+        accumulate(&mut sums[i], readings[i], sample);
         i += 1;
     }
 }

@@ -1,6 +1,7 @@
 -- The laws of one step.
---     base-one, base-not    what sample n adds to
---     base-in-range              it is in range
+--     addend-one, addend-not    what sample n adds to its product
+--     addend-in-range           it is in range
+--     weight-in-range           and so is its weight
 --     possible-step             a step takes an entry that is possible for k to one that is possible for k + 1; sample 1 takes any entry
 use Prim.Native.Nat.{ℕ, zero, suc, _≤_, _<_}
 use mathlib.Core.Bool.{Bool, true, false, cond}
@@ -17,22 +18,22 @@ use Rattle.readings.specs.Readings.{readingInRange}
 use Rattle.entries.specs.Possible.{possibleAfter, possible}
 use Rattle.entries.specs.Range.{entryInRange}
 use Rattle.entries.proofs.Possible.{Mark, Near, fair, is-fair}
-use Rattle.step.specs.Step.{overIt, base, stepFrom, step}
+use Rattle.step.specs.Step.{overIt, pedestalOrStored, sumOrMark, step}
 use Rattle.step.proofs.Products.{product}
 
-pub base-one : (n : ℕ) (e : ℤ) → n ≡ 1 → pos 128 ≡ base n e
-base-one n e q = rw q
+pub addend-one : (n : ℕ) (e : ℤ) → n ≡ 1 → pos 128 ≡ pedestalOrStored n e
+addend-one n e q = rw q
 
-pub base-not : (n : ℕ) (e : ℤ) → (n ≡ 1 → ⊥) → e ≡ base n e
-base-not zero e q = refl
-base-not (suc zero) e q = absurd (q refl)
-base-not (suc (suc n)) e q = refl
+pub addend-not : (n : ℕ) (e : ℤ) → (n ≡ 1 → ⊥) → e ≡ pedestalOrStored n e
+addend-not zero e q = refl
+addend-not (suc zero) e q = absurd (q refl)
+addend-not (suc (suc n)) e q = refl
 
-pub base-in-range : (n : ℕ) (e : ℤ) → 1 ≤ n → (1 < n → entryInRange e ≡ true) → entryInRange (base n e) ≡ true
+pub addend-in-range : (n : ℕ) (e : ℤ) → 1 ≤ n → (1 < n → entryInRange e ≡ true) → entryInRange (pedestalOrStored n e) ≡ true
 unfolding entryInRange
-base-in-range zero e h a = absurd (omega arith)
-base-in-range (suc zero) e h a = refl
-base-in-range (suc (suc n)) e h a = a (omega arith)
+addend-in-range zero e h a = absurd (omega arith)
+addend-in-range (suc zero) e h a = refl
+addend-in-range (suc (suc n)) e h a = a (omega arith)
 
 pub weight-in-range : (s : Settings) → InRange s → (n : ℕ) → weightInRange (weightAt s n) ≡ true
 weight-in-range s r zero = refl
@@ -40,23 +41,23 @@ weight-in-range s r (suc i) = r .weights i
 
 module _ (w : ℤ) (x : ℕ) (hw : weightInRange w ≡ true) (hx : readingInRange x ≡ true) (k : ℕ) (few : k ≤ 8) where
   -- on an entry that is near for k, unmarked
-  near-step : (e : ℤ) → Near k e → (above : Bool) → possibleAfter (suc k) (stepFrom w above (mark (suc k)) e x) ≡ true
+  near-step : (e : ℤ) → Near k e → (above : Bool) → possibleAfter (suc k) (sumOrMark e above (mark (suc k)) (w *ℤ pos x +ℤ e)) ≡ true
   near-step e h above = rw (not-le (mark 1) e (omega arith)) (by above)
     where
-      by : (b : Bool) → possibleAfter (suc k) (cond b (mark (suc k)) (e +ℤ w *ℤ pos x)) ≡ true
+      by : (b : Bool) → possibleAfter (suc k) (cond b (mark (suc k)) (w *ℤ pos x +ℤ e)) ≡ true
       by true = is-fair (suc k) (mark (suc k)) (inl (omega arith))
-      by false = is-fair (suc k) (e +ℤ w *ℤ pos x) (inr (omega (arith, product w x hw hx, sum e (w *ℤ pos x))))
+      by false = is-fair (suc k) (w *ℤ pos x +ℤ e) (inr (omega (arith, product w x hw hx, sum (w *ℤ pos x) e)))
 
   -- on a mark of a sample up to k
-  mark-step : (e : ℤ) → Mark k e → (above : Bool) → possibleAfter (suc k) (stepFrom w above (mark (suc k)) e x) ≡ true
+  mark-step : (e : ℤ) → Mark k e → (above : Bool) → possibleAfter (suc k) (sumOrMark e above (mark (suc k)) (w *ℤ pos x +ℤ e)) ≡ true
   mark-step e h above = rw (is-le (mark 1) e (omega arith)) (is-fair (suc k) e (inl (omega arith)))
 
-base-step : (w : ℤ) (above : Bool) (k : ℕ) (e : ℤ) (x : ℕ) → weightInRange w ≡ true → readingInRange x ≡ true → k ≤ 8 → (0 < k → possibleAfter k e ≡ true)
-    → possibleAfter (suc k) (stepFrom w above (mark (suc k)) (base (suc k) e) x) ≡ true
-base-step w above zero e x hw hx few h = near-step w x hw hx 0 few (pos 128) (omega arith) above
-base-step w above (suc k) e x hw hx few h =
+any-step : (w : ℤ) (above : Bool) (k : ℕ) (e : ℤ) (x : ℕ) → weightInRange w ≡ true → readingInRange x ≡ true → k ≤ 8 → (0 < k → possibleAfter k e ≡ true)
+    → let addend = pedestalOrStored (suc k) e in possibleAfter (suc k) (sumOrMark addend above (mark (suc k)) (w *ℤ pos x +ℤ addend)) ≡ true
+any-step w above zero e x hw hx few h = near-step w x hw hx 0 few (pos 128) (omega arith) above
+any-step w above (suc k) e x hw hx few h =
     ⊎-elim (λ m. mark-step w x hw hx (suc k) few e m above) (λ m. near-step w x hw hx (suc k) few e m above) (fair (suc k) e (h (omega arith)))
 
 pub possible-step : (s : Settings) → InRange s → (k : ℕ) (e : ℤ) (x : ℕ) → k ≤ 8 → readingInRange x ≡ true → (0 < k → possible s k e ≡ true) → possible s (suc k) (step s (suc k) e x) ≡ true
 unfolding step
-possible-step s r k e x few ok h = base-step (weightAt s (suc k)) (overIt s (suc k) x) k e x (weight-in-range s r (suc k)) ok few h
+possible-step s r k e x few ok h = any-step (weightAt s (suc k)) (overIt s (suc k) x) k e x (weight-in-range s r (suc k)) ok few h

@@ -1,4 +1,4 @@
--- What one reading does to one entry.
+-- What one reading does to one entry, in the order of section 2.3 of the Description: multiply, add 128 or the stored sum, store.
 use Prim.Native.Nat.{ℕ, zero, suc}
 use mathlib.Core.Bool.{Bool, cond}
 use lib.Dec.{ltb}
@@ -13,23 +13,27 @@ use Rattle.step.specs.declared.Sample.{Sample}
 abbrev pub isAbove : ℕ → ℕ → Bool
 isAbove t x = ltb t x
 
--- what sample n adds to: 128 at sample 1, whatever the entry held; the entry at any later one (there is no sample 0)
-abbrev pub base : ℕ → ℤ → ℤ
-base zero e = e
-base (suc zero) e = pos pedestal
-base (suc (suc n)) e = e
-
--- a marked entry stays; a reading over the threshold puts the mark in the entry's place; any other adds weight × reading
-abbrev pub stepFrom : ℤ → Bool → ℤ → ℤ → ℕ → ℤ
-stepFrom weight above newMark e x = cond (marked e) e (cond above newMark (e +ℤ weight *ℤ pos x))
-
 -- whether the reading x of a sample is over the threshold
 abbrev pub isOver : Sample → ℕ → Bool
 isOver sample x = isAbove (sample .threshold) x
 
--- the entry e after the reading x of a sample, with what the settings say of that sample at hand
+-- what sample n adds to its product: 128 at sample 1, whatever the entry held; the stored sum at any later one (there is no sample 0)
+abbrev pub pedestalOrStored : ℕ → ℤ → ℤ
+pedestalOrStored zero stored = stored
+pedestalOrStored (suc zero) stored = pos pedestal
+pedestalOrStored (suc (suc n)) stored = stored
+
+-- what is stored: a marked entry stays (128 is no mark); a reading over the threshold stores its mark; any other stores the sum
+abbrev pub sumOrMark : ℤ → Bool → ℤ → ℤ → ℤ
+sumOrMark addend over newMark sum = cond (marked addend) addend (cond over newMark sum)
+
+-- the entry after the reading x of a sample, with what the settings say of that sample at hand
 abbrev pub stepBy : Sample → ℕ → ℤ → ℤ
-stepBy sample x e = stepFrom (sample .weight) (isOver sample x) (mark (sample .n)) (base (sample .n) e) x
+stepBy sample x entry =
+    let product = sample .weight *ℤ pos x in
+    let addend = pedestalOrStored (sample .n) entry in
+    let sum = product +ℤ addend in
+    sumOrMark addend (isOver sample x) (mark (sample .n)) sum
 
 -- what the settings say of sample n
 abbrev pub sampleAt : Settings → ℕ → Sample

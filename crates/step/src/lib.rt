@@ -6,8 +6,7 @@ ghost use lib.IntN.{pos, natAbs, _*ℤ_};
 ghost use Rattle.settings.specs.Settings.{weightInRange, thresholdInRange, maxSamples};
 ghost use Rattle.readings.specs.Readings.{readingInRange};
 ghost use Rattle.entries.specs.Range.{entryInRange};
-ghost use Rattle.step.specs.Step as Def;
-ghost use Rattle.step.specs.Step.{isAbove, stepFrom, stepBy};
+ghost use Rattle.step.specs.Step.{isAbove, pedestalOrStored, sumOrMark, stepBy};
 use entries::MARK;
 
 // A sample of a ramp: its number, counted from 1, its weight, and the threshold that its readings are held against.
@@ -15,13 +14,6 @@ pub struct Sample {
     pub n: usize,
     pub weight: i32,
     pub threshold: u16,
-}
-
-// What sample n adds to: 128 at sample 1, else the entry.
-fn base(entry: i32, n: usize) -> i32
-    ensures { λ r. ⌜ r ≡ Def.base n entry ⌝ }
-{
-    if n == 1 { 128 } else { entry }
 }
 
 // The magnitude of a weight, without its sign.
@@ -44,14 +36,21 @@ fn signed(reading: u16) -> i16
     reading as i16
 }
 
-// weight * reading. The magnitude is multiplied and then takes the sign, so that the compiler sees two small numbers and makes a loop for each sign.
-fn product(weight: i32, reading: u16) -> i32
+// Multiply: weight * reading. The magnitude is multiplied and then takes the sign, so that the compiler sees two small numbers and makes a loop for each sign.
+fn multiply(weight: i32, reading: u16) -> i32
     requires { ⌜ weightInRange weight ≡ true ⌝ }
     requires { ⌜ readingInRange reading ≡ true ⌝ }
     ensures { λ r. ⌜ r ≡ weight *ℤ pos reading ⌝ }
 {
     let size = magnitude(weight) as i32 * signed(reading) as i32;
     if weight < 0 { -size } else { size }
+}
+
+// What sample n adds to its product: 128 at sample 1, else the stored sum.
+fn pedestal_or_stored(n: usize, stored: i32) -> i32
+    ensures { λ r. ⌜ r ≡ pedestalOrStored n stored ⌝ }
+{
+    if n == 1 { 128 } else { stored }
 }
 
 // Whether a reading is above the threshold, which is below 32,768 too.
@@ -70,34 +69,30 @@ fn pick(test: bool, yes: i32, no: i32) -> i32
     if test { yes } else { no }
 }
 
-// A marked entry stays, a reading above the threshold makes the mark, any other adds its product.
-fn step_from(entry: i32, reading: u16, weight: i32, threshold: u16, mark: i32) -> i32
-    requires { ⌜ weightInRange weight ≡ true ⌝ }
-    requires { ⌜ thresholdInRange threshold ≡ true ⌝ }
-    requires { ⌜ readingInRange reading ≡ true ⌝ }
-    requires { ⌜ entryInRange entry ≡ true ⌝ }
-    ensures { λ r. ⌜ r ≡ stepFrom weight (isAbove threshold reading) mark entry reading ⌝ }
+// What is stored: a marked entry stays, a reading above the threshold stores its mark, any other stores the sum.
+fn sum_or_mark(addend: i32, above: bool, mark: i32, sum: i32) -> i32
+    ensures { λ r. ⌜ r ≡ sumOrMark addend above mark sum ⌝ }
 {
-    let sum = entry + product(weight, reading);
-    let next = pick(is_above(reading, threshold), mark, sum);
-    pick(entry > MARK, entry, next)
+    pick(addend > MARK, addend, pick(above, mark, sum))
 }
 
-// The entry after a reading of a sample.
-pub fn stepped(entry: i32, reading: u16, sample: Sample) -> i32
+// One reading of a sample, in the order of section 2.3 of the Description: multiply, add 128 or the stored sum, store.
+pub fn accumulate(entry: &mut i32, reading: u16, sample: Sample)
     requires { ⌜ (1 ≤ sample .n) × (sample .n ≤ maxSamples) ⌝ }
     requires { ⌜ weightInRange (sample .weight) ≡ true ⌝ }
     requires { ⌜ thresholdInRange (sample .threshold) ≡ true ⌝ }
     requires { ⌜ readingInRange reading ≡ true ⌝ }
-    requires { ⌜ (1 < sample .n → entryInRange entry ≡ true) ⌝ }
-    ensures { λ r. ⌜ r ≡ stepBy sample reading entry ⌝ }
+    requires { ⌜ (1 < sample .n → entryInRange (now entry) ≡ true) ⌝ }
+    ensures { λ r. ⌜ now (entry .exit) ≡ stepBy sample reading (now (entry .entry)) ⌝ }
 {
     let n = sample.n;
-    step_from(
-        base(entry, n),
-        reading,
-        sample.weight,
-        sample.threshold,
+    let product = multiply(sample.weight, reading);
+    let addend = pedestal_or_stored(n, *entry);
+    let sum = product + addend;
+    *entry = sum_or_mark(
+        addend,
+        is_above(reading, sample.threshold),
         MARK + n as i32,
-    )
+        sum,
+    );
 }

@@ -6,20 +6,19 @@
 use Prim.Native.Nat.{ℕ, zero, suc, _≤_, _<_}
 use mathlib.Core.Bool.{Bool, true, false, cond}
 use mathlib.Core.Option.{Option, none, some}
-use mathlib.Core.Path.{_≡_, refl}
+use mathlib.Core.Path.{_≡_, refl, _∙_}
 use native.Mathlib.Omega.{arith}
-use lib.IntN.{ℤ, pos, _+ℤ_, +ℤ-assoc}
+use lib.IntN.{ℤ, pos, _+ℤ_, +ℤ-assoc, +ℤ-comm}
 use Rattle.laws.specs.Numbers.{orElse, firstOf, sumTo}
 use Rattle.laws.proofs.Ints.{not-le}
 use Rattle.laws.proofs.Firsts.{Nowhere, Says, first-says, first-same, sum-same}
 use Rattle.settings.specs.declared.Settings.{Settings}
-use Rattle.settings.specs.Settings.{weightAt}
 use Rattle.settings.proofs.Parts.{InRange}
 use Rattle.entries.specs.Mark.{mark, marked, sampleOf}
 use Rattle.readings.specs.Readings.{readingInRange}
 use Rattle.entries.specs.Possible.{possible}
 use Rattle.entries.proofs.Marks.{is-marked, sample-is, sample-none}
-use Rattle.step.specs.Step.{overIt, stepFrom, step}
+use Rattle.step.specs.Step.{overIt, sumOrMark, step}
 use Rattle.sums.specs.Exact.{exactSum, firstOver, markedBy, entryAfter}
 use Rattle.step.proofs.Steps.{possible-step}
 use Rattle.sums.proofs.Bounds.{part, below-marks}
@@ -38,27 +37,27 @@ module _ (s : Settings) (r : InRange s) (x : ℕ → ℕ) where
       by (some n) f = sample-is n (f .low)
       by none f = sample-none (exactSum s k x) (unmarked k f)
 
-  base-step : (k : ℕ) → stepFrom (weightAt s (suc k)) (over (suc k)) (mark (suc k)) (entryAfter s k x) (x (suc k)) ≡ entryAfter s (suc k) x
+  next-entry : (k : ℕ) → sumOrMark (entryAfter s k x) (over (suc k)) (mark (suc k)) (part s x (suc k) +ℤ entryAfter s k x) ≡ entryAfter s (suc k) x
   unfolding firstOf sumTo
-  base-step k = by (firstOver s k x) (first-says over k)
+  next-entry k = by (firstOver s k x) (first-says over k)
     where
       z : ℤ
       z = exactSum s k x
 
-      last : (b : Bool) → cond b (mark (suc k)) (z +ℤ part s x (suc k)) ≡ markedBy (cond b (some (suc k)) none) (pos 128 +ℤ (sumTo k (part s x) +ℤ part s x (suc k)))
+      last : (b : Bool) → cond b (mark (suc k)) (part s x (suc k) +ℤ z) ≡ markedBy (cond b (some (suc k)) none) (pos 128 +ℤ (sumTo k (part s x) +ℤ part s x (suc k)))
       last true = refl
-      last false = +ℤ-assoc (pos 128) (sumTo k (part s x)) (part s x (suc k))
+      last false = +ℤ-comm (part s x (suc k)) z ∙ +ℤ-assoc (pos 128) (sumTo k (part s x)) (part s x (suc k))
 
       by : (o : Option ℕ) → Says over k o
-          → stepFrom (weightAt s (suc k)) (over (suc k)) (mark (suc k)) (markedBy o z) (x (suc k))
+          → sumOrMark (markedBy o z) (over (suc k)) (mark (suc k)) (part s x (suc k) +ℤ markedBy o z)
           ≡ markedBy (orElse o (cond (over (suc k)) (some (suc k)) none)) (pos 128 +ℤ (sumTo k (part s x) +ℤ part s x (suc k)))
       by (some n) f = rw (is-marked n (f .low))
       by none f = rw (unmarked k f) (last (over (suc k)))
 
   pub entry-step : (k : ℕ) (e : ℤ) → (1 ≤ k → e ≡ entryAfter s k x) → step s (suc k) e (x (suc k)) ≡ entryAfter s (suc k) x
   unfolding step firstOf sumTo
-  entry-step zero e q = base-step 0
-  entry-step (suc k) e q = rw (q (omega arith)) (base-step (suc k))
+  entry-step zero e q = next-entry 0
+  entry-step (suc k) e q = rw (q (omega arith)) (next-entry (suc k))
 
   pub entry-possible : ((n : ℕ) → readingInRange (x n) ≡ true) → (k : ℕ) → k ≤ 9 → 0 < k → possible s k (entryAfter s k x) ≡ true
   entry-possible ok zero few l = absurd (omega arith)

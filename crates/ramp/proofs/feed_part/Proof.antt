@@ -8,9 +8,7 @@ use lib.IntN.{ℤ, pos}
 use lib.ListN.{length, take, getD, set, length-set}
 use lib.Seq.{take-all}
 use denote.Ref.{now}
-use mir.Syntax.{w32}
 use Rattle.laws.specs.Lists.{over}
-use Rattle.laws.proofs.Ints.{back}
 use Rattle.laws.proofs.Every.{every-at}
 use Rattle.laws.proofs.Over.{over-at, over-more}
 use Rattle.readings.specs.Readings.{readingInRange}
@@ -30,13 +28,12 @@ loop-holds : tie.Need-loop-holds Inv-loop μ-loop
 unfolding over
 loop-holds c = search needs
 
-stepped-requires : tie.Need-stepped-requires Inv-loop μ-loop
-stepped-requires c κs =
+accumulate-requires : tie.Need-accumulate-requires Inv-loop μ-loop
+accumulate-requires c κs =
     let l = c .before .before .before .loop in
     let s = c .before .before .before .before .before in
     let a = s .args in
-    let h = s .pre .1 in
-    rw (back w32 (getD (l .sums) (l .i) (pos 0)) (c .before .stepped-arg .given)) (
+    let h = s .pre .1 in (
       h .0,
       (
         h .1 .0,
@@ -58,11 +55,11 @@ turn f xs ss sums i v p q h = rw (q, p, over-at f xs ss i (pos 0)) (over-more f 
 loop-again : tie.Need-loop-again Inv-loop μ-loop
 loop-again c =
     let l = c .before .before .before .before .loop in
-    let a = c .before .before .before .before .before .before .args in
-    let f = stepBy (a .sample) in
-    let was = back w32 (getD (l .sums) (l .i) (pos 0)) (c .before .before .stepped-arg .given) in
-    let is = back w32 (c .stepped .result) (c .stepped .ok) in
-    (omega arith, simp length-set (l .inv .1), turn f (now (a .readings)) (now (a .sums)) (l .sums) (l .i) _ (l .inv .2) (is ∙ rw was at (c .stepped .ensures)) (omega arith))
+    let a = c .before .before .before .before .before .before .args in (
+      omega arith,
+      simp length-set (l .inv .1),
+      turn (stepBy (a .sample)) (now (a .readings)) (now (a .sums)) (l .sums) (l .i) _ (l .inv .2) (c .accumulate .ensures) (omega arith),
+    )
 
 returns : tie.Need-returns Inv-loop μ-loop
 returns c =
@@ -81,9 +78,7 @@ feed-part-spec =
     (λ c. search needs)
     (λ c. search needs)
     (λ c. search needs)
-    stepped-requires
-    (λ c. search needs)
-    (λ c. search needs)
+    accumulate-requires
     (λ c. search needs)
     (λ c. search needs)
     loop-again

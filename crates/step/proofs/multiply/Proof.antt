@@ -1,4 +1,4 @@
--- `step::product` meets its contract.
+-- `step::multiply` meets its contract.
 use mathlib.Core.Path.{_≡_, _∙_, ap}
 use Prim.Native.Nat.{ℕ, _*_, _≤_}
 use native.Mathlib.Omega.{arith}
@@ -12,8 +12,8 @@ use Rattle.laws.proofs.Ints.{back, neg-up, neg-dn, fits, toZ-nat}
 use Rattle.readings.specs.Readings.{maxReading}
 use Rattle.entries.specs.Possible.{maxProduct}
 use Rattle.step.proofs.Products.{magnitude-le, size-le, by-sign}
-use Rattle.step.proofs.product.Statement.{statement}
-use Rattle.step.proofs.product.Tie as tie
+use Rattle.step.proofs.multiply.Statement.{statement}
+use Rattle.step.proofs.multiply.Tie as tie
 
 module _ (c : tie.After-magnitude) where
   abbrev w : ℤ
@@ -81,8 +81,8 @@ returns-2 c =
     let t = simp (toZ-ofZ, m b .before .fits .weight) at (c .if1 .left) in
     rw (product b, toZ-ofZ (fitting b)) (rw t at (by-sign (w (m b)) (x (m b))))
 
-pub product-spec : {M : Type 1} → statement M
-product-spec =
+pub multiply-spec : {M : Type 1} → statement M
+multiply-spec =
     tie.close
     (tie.spec
     (λ c κs. search needs)
