@@ -9,7 +9,7 @@ use borrow.Author.Tests.{le-ltb, eq-eqb}
 use native.Mathlib.Omega.{arith}
 use lib.IntN.{ℤ, pos}
 use lib.ListN.{length}
-use Rattle.laws.specs.Lists.{every}
+use Rattle.laws.specs.Lists.{every, joined}
 use Rattle.laws.proofs.Tests.{true-and}
 use Rattle.laws.proofs.Elements.{every-append}
 use Rattle.checks.specs.declared.Answer.the-variants.{Taken}
@@ -28,7 +28,6 @@ use Rattle.operations.specs.ReadOut.{readOutChecks, readOutOf, readOutWords}
 use Rattle.board.proofs.Soundness.{sound-parts, sides-of}
 use Rattle.operations.proofs.FeedChecked.{feed-taken, feed-passes}
 use Rattle.operations.proofs.ReadOutChecked.{read-out-taken}
-use Rattle.history.specs.Demands.{joined}
 use Rattle.begin.specs.Begun.{started, begun}
 use Rattle.begin.proofs.Beginning.{begun-sound, started-unfed}
 use Rattle.whole_frame.specs.Chain.{fed, readOut, frameAnswer, frameSums, frameWords}

@@ -5,13 +5,14 @@ use mathlib.Core.List.{List, [], _∷_}
 use mathlib.Core.Path.{_≡_}
 use lib.IntN.{ℤ}
 use lib.ListN.{length}
+use Rattle.laws.specs.Lists.{joined}
 use Rattle.checks.specs.declared.Answer.the-variants.{Taken}
 use Rattle.board.specs.declared.Coverage.the-variants.{Covered}
 use Rattle.board.specs.Board.{wanted}
 use Rattle.operations.specs.Covered.{coverageOf}
 use Rattle.history.specs.Calls.{update, start, feed, Ledger, fresh, viewOf, next}
 use Rattle.history.specs.Readings.{frameFrom}
-use Rattle.history.specs.Demands.{FrameClaim, joined}
+use Rattle.history.specs.Demands.{FrameClaim}
 use Rattle.begin.specs.Begun.{started}
 use Rattle.whole_frame.specs.Chain.{frameAnswer, frameSums, frameWords}
 use Rattle.steps.specs.Steps.{feedAnswer, feedLeaves, readOutAnswer, readOutLeaves}

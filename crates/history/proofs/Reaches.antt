@@ -12,7 +12,7 @@ use native.Mathlib.Omega.{arith}
 use lib.Dec.{ltb}
 use lib.IntN.{ℤ, pos}
 use lib.ListN.{length, getD, length-append}
-use Rattle.laws.specs.Lists.{each, every}
+use Rattle.laws.specs.Lists.{each, every, joined}
 use Rattle.laws.proofs.Tests.{and-true, clash}
 use Rattle.laws.proofs.Each.{each-length}
 use Rattle.laws.proofs.Every.{every-at, every-all}
@@ -30,7 +30,7 @@ use Rattle.board.specs.Open.{openOf}
 use Rattle.operations.proofs.Says.{says}
 use Rattle.history.specs.Calls.{Call, update, start, feed, readOut, Ledger, fresh, viewOf, refusal, effect, Allowed, anySums, afterTaken, Moment, moments}
 use Rattle.history.specs.Readings.{area, words}
-use Rattle.history.specs.Demands.{Every, played, ReadsOut, Some, fedBy, joined, passable, Reached, NoTakenUpdate}
+use Rattle.history.specs.Demands.{Every, played, ReadsOut, Some, fedBy, passable, Reached, NoTakenUpdate}
 use Rattle.history.proofs.Ledgers.{found, opened-is, board-is}
 use Rattle.history.proofs.Invariant.{Good, opened-good, taken-good}
 use Rattle.history.proofs.Ramps.{inBits, Ramp, blank, feed-goes, fed-ramp, read-goes}

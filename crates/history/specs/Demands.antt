@@ -1,14 +1,14 @@
 -- The three demands, over every list of calls on a board that Open gave. Read from top to bottom.
 use Prim.Native.Nat.{ℕ, _*_, _≤_, _<_}
 use mathlib.Core.Bool.{Bool, true, false, cond, _&&_}
-use mathlib.Core.List.{List, [], _∷_, _++_}
+use mathlib.Core.List.{List, [], _∷_}
 use mathlib.Core.Logic.{_↔_, _⊎_}
 use mathlib.Core.Path.{_≡_}
 use lib.Dec.{ltb}
 use lib.IntN.{ℤ, pos, negℤ}
 use lib.ListN.{length, getD}
 use lib.Signed.{leZ, ltZ, _≤ℤ_}
-use Rattle.laws.specs.Lists.{every, total}
+use Rattle.laws.specs.Lists.{every, joined, total}
 use Rattle.settings.specs.declared.Settings.{Settings}
 use Rattle.settings.specs.Settings.{defaults, inRange}
 use Rattle.settings.specs.Covered.{ceiling, isCovered}
@@ -172,11 +172,6 @@ fedBy (start ∷ calls) = fedBy calls
 fedBy (readOut sums output ∷ calls) = fedBy calls
 fedBy (drop ∷ calls) = fedBy calls
 fedBy (covered ∷ calls) = fedBy calls
-
--- one after the other
-abbrev pub joined : List (List ℕ) → List ℕ
-joined [] = []
-joined (xs ∷ xss) = xs ++ joined xss
 
 -- what the types of a call's parameters hold: bytes, 16-bit readings and words, 32-bit sums
 abbrev pub passable : Call → Bool

@@ -1,4 +1,4 @@
--- Lists: one made by a rule, a test of each element, a total.
+-- Lists: one made by a rule, lists one after the other, a test of each element, a total.
 use Prim.Native.Nat.{ℕ, zero, suc}
 use mathlib.Core.Bool.{Bool, true, false, _&&_, _||_}
 use mathlib.Core.List.{List, [], _∷_, _++_}
@@ -13,6 +13,11 @@ each f (suc n) = each f n ++ (f n ∷ [])
 abbrev pub upFrom : ℕ → ℕ → List ℕ
 upFrom a zero = []
 upFrom a (suc n) = a ∷ upFrom (suc a) n
+
+-- one after the other
+abbrev pub joined : {A : Type 0} → List (List A) → List A
+joined [] = []
+joined (xs ∷ xss) = xs ++ joined xss
 
 -- whether the test holds of every element
 unfoldable pub every : {A : Type 0} → (A → Bool) → List A → Bool

@@ -1,4 +1,4 @@
--- What the checks of a taken Feed have shown, and back.
+-- What the checks of a taken Feed have shown, and back; and that the board it leaves is sound.
 use Prim.Native.Nat.{ℕ, _+_, _≤_}
 use mathlib.Core.Bool.{true}
 use mathlib.Core.List.{List}
@@ -19,8 +19,9 @@ use Rattle.written.specs.Written.{notPossibleAt}
 use Rattle.board.specs.declared.Board.{Board}
 use Rattle.board.specs.Board.{wanted}
 use Rattle.board.specs.RampChecks.{rampChecks}
+use Rattle.board.proofs.Soundness.{Sound}
 use Rattle.board.proofs.Checked.{RampTaken, ramp-taken, ramp-passes, all-taken}
-use Rattle.operations.specs.Feed.{feedChecks}
+use Rattle.operations.specs.Feed.{feedChecks, extended}
 
 pub record FeedTaken (b : Board) (xs : List ℕ) (sums : List ℤ) : Type 0 where
   pub ramp : RampTaken b (length sums)
@@ -42,3 +43,6 @@ pub feed-passes : (b : Board) (xs : List ℕ) (sums : List ℤ) → FeedTaken b 
 unfolding verdict
 feed-passes b xs sums t =
     rw (verdict-append (rampChecks b (length sums)), ramp-passes b (length sums) (t .ramp), le-ltb _ _ (t .room), found-every readingInRange xs 0 (t .readings), t .entries)
+
+pub extended-sound : (b : Board) (xs : List ℕ) (sums : List ℤ) → FeedTaken b xs sums → Sound b → Sound (extended (length xs) b)
+extended-sound b xs sums t s = record { sides = s .sides; waiting = s .waiting; in-force = s .in-force; fed = t .room; idle = rw (t .ramp .running) }

@@ -32,7 +32,8 @@ use Rattle.operations.specs.Feed.{feedChecks, extended, feedOf, fedSums}
 use Rattle.operations.specs.ReadOut.{readOutChecks, readOutOf, readOutWords}
 use Rattle.operations.specs.Covered.{coverageOf}
 use Rattle.operations.specs.Laws.{Gives99, OperationLaws}
-use Rattle.operations.proofs.FeedChecked.{feed-taken, feed-passes}
+use Rattle.operations.proofs.Feeds.{one-by-one, any-cut, taken-in-any-cut}
+use Rattle.operations.proofs.FeedChecked.{feed-taken, feed-passes, extended-sound}
 
 -- ---- soundness
 
@@ -59,8 +60,7 @@ feed-sound : (b : Board) (xs : List ℕ) (sums : List ℤ) → sound (feedOf b x
 unfolding feedOf
 feed-sound b xs sums =
     stays b (extended (length xs) b) _
-    (λ s e. let t = feed-taken b xs sums e in
-    record { sides = s .sides; waiting = s .waiting; in-force = s .in-force; fed = t .room; idle = rw (t .ramp .running) })
+    (λ s e. extended-sound b xs sums (feed-taken b xs sums e) s)
 
 -- ---- what each keeps
 
@@ -129,4 +129,7 @@ laws = record {
   read-out-keeps = λ b sums output. same-settings (verdict (readOutChecks b sums output)) b (ended b) (refl, refl);
   drop-keeps = λ b. same-settings (verdict (dropChecks b)) b (ended b) (refl, refl);
   empty-feed = empty-feed;
+  one-by-one = one-by-one;
+  any-cut = any-cut one-by-one;
+  taken-in-any-cut = taken-in-any-cut;
 }

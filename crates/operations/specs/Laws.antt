@@ -5,6 +5,7 @@ use mathlib.Core.List.{List, []}
 use mathlib.Core.Path.{_≡_}
 use lib.IntN.{ℤ}
 use lib.ListN.{length}
+use Rattle.laws.specs.Lists.{joined}
 use Rattle.checks.specs.declared.Refusal.{Refusal}
 use Rattle.checks.specs.declared.Answer.the-variants.{Taken, Refused}
 use Rattle.checks.specs.Checks.{refusal, verdict}
@@ -16,6 +17,7 @@ use Rattle.board.specs.Kept.{SameSides, SameSettings, refused99}
 use Rattle.operations.specs.Update.{withWaiting, updateOf}
 use Rattle.operations.specs.Ramp.{startOf, dropOf}
 use Rattle.operations.specs.Feed.{feedOf, fedSums}
+use Rattle.operations.specs.Feeds.{BoardAndSums, TakesFeed, TakesFeeds, afterFeeds, OneByOne}
 use Rattle.operations.specs.ReadOut.{readOutOf, readOutWords}
 use Rattle.operations.specs.Covered.{coverageOf}
 
@@ -55,3 +57,11 @@ pub record OperationLaws : Type 0 where
   -- an empty Feed that passes its checks is taken and changes nothing: only 99, 10 and 11 can refuse it
   pub empty-feed : (b : Board) (sums : List ℤ) → verdict (rampChecks b (length sums)) ≡ Taken
       → (feedOf b [] sums ≡ record { answer = Taken; board = b }) × (fedSums b [] sums ≡ sums)
+  -- a taken Feed leaves the board and sums that the Feeds of its readings one at a time leave: all of these are taken, and each writes its one entry
+  pub one-by-one : (before : BoardAndSums) (readings : List ℕ) → TakesFeed before readings → OneByOne before readings
+  -- two ways to cut the same readings into taken Feeds leave the same board and sums
+  pub any-cut : (before : BoardAndSums) (cut other : List (List ℕ)) → joined cut ≡ joined other → TakesFeeds before cut → TakesFeeds before other
+      → afterFeeds before cut ≡ afterFeeds before other
+  -- where all Feeds of one cut are taken, those of any other are; the board has to take an empty Feed, which another cut may hold
+  pub taken-in-any-cut : (before : BoardAndSums) (cut other : List (List ℕ)) → joined cut ≡ joined other → TakesFeed before [] → TakesFeeds before cut
+      → TakesFeeds before other

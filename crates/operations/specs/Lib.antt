@@ -2,6 +2,7 @@
 pub mod Update
 pub mod Ramp
 pub mod Feed
+pub mod Feeds
 pub mod ReadOut
 pub mod Covered
 pub mod Laws

@@ -1,18 +1,19 @@
 -- The laws of `feedAll`, for any kind of entry and any step.
 --     feed-length     it keeps the length
 --     feed-append     some readings, and then some more
---     feed-past       a pixel that no reading has reached is as it was
+--     feed-past       a pixel whose next reading, number k × m + p, comes after them is as it was
 --     feed-part       readings that stay within one sample: `over` at the part of the sums that they reach
-use Prim.Native.Nat.{ℕ, suc, _+_, _*_, _%_, _≤_, _<_}
+use Prim.Native.Nat.{ℕ, suc, _+_, _*_, _/_, _%_, _≤_, _<_}
 use mathlib.Core.List.{List, [], _∷_, _++_, append-assoc}
 use mathlib.Core.Path.{_≡_, refl, sym, ap, _∙_}
-use native.Mathlib.Nat.{add-zero, add-suc, suc-add, mod-le}
+use native.Mathlib.Nat.{add-zero, add-suc, suc-add}
 use native.Mathlib.Omega.{arith}
 use lib.Arith.{digits-div, digits-mod}
 use lib.ListN.{length, getD, take, drop, set, length-set, take-append-drop}
 use lib.Seq.{take-suc-set, drop-set-lt, drop-cons, getD-set-other}
 use Rattle.laws.specs.Lists.{over}
 use Rattle.laws.proofs.Over.{over-part}
+use Rattle.written.proofs.Places.{same-sample, place}
 use Rattle.sums.specs.Feed.{feedOne, feedAll}
 
 module _ {E : Type 0} (absent : E) (step : ℕ → E → ℕ → E) (m : ℕ) where
@@ -36,11 +37,17 @@ module _ {E : Type 0} (absent : E) (step : ℕ → E → ℕ → E) (m : ℕ) wh
   feed-append [] ys f ss = rw add-zero
   feed-append (x ∷ xs) ys f ss = rw (add-suc, ← suc-add) (feed-append xs ys (suc f) (one f x ss))
 
-  pub feed-past : (xs : List ℕ) (f : ℕ) (ss : List E) (p : ℕ) → f + length xs ≤ p → getD (all f xs ss) p absent ≡ getD ss p absent
+  pub feed-past : (xs : List ℕ) (f : ℕ) (ss : List E) (p k : ℕ) → p < m → f + length xs ≤ k * m + p → k * m + p < f + m
+      → getD (all f xs ss) p absent ≡ getD ss p absent
   unfolding feedAll feedOne
-  feed-past [] f ss p h = refl
-  feed-past (x ∷ xs) f ss p h =
-      feed-past xs (suc f) (one f x ss) p (omega arith) ∙ getD-set-other ss (f % m) p _ absent (λ e. omega (arith, mod-le f m))
+  feed-past [] f ss p k l h next = refl
+  feed-past (x ∷ xs) f ss p k l h next =
+      feed-past xs (suc f) (one f x ss) p k l (omega arith) (omega arith)
+      ∙ getD-set-other ss (f % m) p _ absent
+      (λ e. let here : f / m * m + p ≡ f = rw e (place f m (omega arith) .0) in
+      let same = same-sample m p k (f / m) (omega arith) (omega arith) in
+      let d : k * m + p ≡ f = rw same here in
+      omega arith)
 
   module _ (n : ℕ) where
     -- what sample n + 1 does to an entry

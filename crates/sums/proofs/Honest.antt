@@ -3,13 +3,11 @@
 --     all-possible     after n whole samples, every entry is possible for n
 --     all-pass         a test of every possible entry, and of those that are not written yet, is one of them all
 use Prim.Native.Nat.{ℕ, zero, suc, _*_, _≤_, _<_}
-use mathlib.Core.Bool.{Bool, true, false, not, _&&_}
+use mathlib.Core.Bool.{Bool, true}
 use mathlib.Core.List.{List}
 use mathlib.Core.Path.{_≡_, refl}
-use borrow.Author.Tests.{leb-true}
 use native.Mathlib.Nat.{lt-of-mul-lt-mul-right}
 use native.Mathlib.Omega.{arith}
-use lib.Dec.{leb}
 use lib.IntN.{ℤ, pos}
 use lib.ListN.{length, getD}
 use Rattle.laws.specs.Lists.{every}
@@ -18,19 +16,13 @@ use Rattle.settings.specs.declared.Settings.{Settings}
 use Rattle.settings.proofs.Parts.{InRange}
 use Rattle.checks.specs.declared.Found.the-variants.{Nothing}
 use Rattle.checks.specs.Search.{firstPlace}
-use Rattle.checks.proofs.Search.{nowhere}
 use Rattle.readings.specs.Readings.{readingInRange}
 use Rattle.entries.specs.Possible.{possible}
 use Rattle.written.specs.Written.{samplesWritten}
 use Rattle.written.specs.Written.{notPossibleAt}
 use Rattle.written.proofs.Places.{same-sample, next}
+use Rattle.written.proofs.Intervals.{Ready, ready-found}
 use Rattle.sums.proofs.Agrees.{Agrees, undamaged}
-
--- where the first of three holds only if the third does
-none-fails : (a b c : Bool) → (a ≡ true → c ≡ true) → a && b && not c ≡ false
-none-fails true true c h = rw (h refl)
-none-fails true false c h = refl
-none-fails false b c h = refl
 
 module _ (s : Settings) (r : InRange s) (m : ℕ) (some : 0 < m) (xs : List ℕ) (ok : every readingInRange xs ≡ true)
     (few : length xs ≤ 9 * m) (sums : List ℤ) (agrees : Agrees s m xs sums) where
@@ -38,9 +30,12 @@ module _ (s : Settings) (r : InRange s) (m : ℕ) (some : 0 < m) (xs : List ℕ)
   entry = undamaged s r m some xs ok sums agrees few
 
   pub never-damaged : (count : ℕ) → firstPlace m (notPossibleAt (pos 0) (possible s) m (length xs) count sums) ≡ Nothing
+  unfolding Ready
   never-damaged count =
-      nowhere (notPossibleAt (pos 0) (possible s) m (length xs) count sums) m
-      (λ p h. let k = samplesWritten m (length xs) p in none-fails (leb 1 k) _ _ (λ t. entry p h k refl (leb-true 1 k t)))
+      ready-found (pos 0) (possible s) m (length xs) count sums some
+      (λ p k h lo hi brought low.
+      let w = next (length xs) m some p h in
+      entry p h k (same-sample m p (samplesWritten m (length xs) p) k (omega arith) (omega arith)) low)
 
   pub all-possible : (n : ℕ) → 1 ≤ n → length xs ≡ n * m → every (possible s n) sums ≡ true
   all-possible n low e =

@@ -2,13 +2,13 @@
 -- samples and those from q on c.
 --     Ready                          each entry that was written, and for which a reading comes, passes the test for its k
 --     written-found, written-first     the search over all pixels is the search over the two intervals; in the first sample, over the first
+--     written-ready, ready-found     where nothing is found, the sums are ready; and back
 --     written-none                   a Feed that brings no reading finds nothing
---     written-ready                  where nothing is found, the sums are ready
 use Prim.Native.Nat.{ℕ, _+_, _*_, _-_, _/_, _%_, _≤_, _<_, min}
 use mathlib.Core.Bool.{Bool, true, false, not, _&&_}
 use mathlib.Core.List.{List}
 use mathlib.Core.Path.{_≡_, refl, sym, ap, _∙_}
-use borrow.Author.Tests.{ltb-true, ltb-false, lt-ltb, le-ltb, le-leb, not-false}
+use borrow.Author.Tests.{ltb-true, ltb-false, lt-ltb, le-ltb, leb-true, le-leb, not-false}
 use native.Mathlib.Nat.{add-mul, one-mul, add-zero}
 use native.Mathlib.Omega.{arith}
 use lib.Dec.{leb, ltb}
@@ -30,6 +30,12 @@ Ready absent test m f count sums =
 differ : (a b c d : ℕ) → a + d ≡ c + b → ltb a b ≡ ltb c d
 differ a b c d e =
     cases (ltb c d) (λ t. lt-ltb a b (omega (arith, ltb-true c d t)) ∙ sym t) (λ t. le-ltb a b (omega (arith, ltb-false c d t)) ∙ sym t)
+
+-- where the third of three holds if the first two do
+none-fails : (a b c : Bool) → (a ≡ true → b ≡ true → c ≡ true) → a && b && not c ≡ false
+none-fails true true c h = rw (h refl refl)
+none-fails true false c h = refl
+none-fails false b c h = refl
 
 module _ {E : Type 0} (absent : E) (test : ℕ → E → Bool) (m f count : ℕ) (ss : List E) (some : 0 < m) where
   abbrev q : ℕ
@@ -87,18 +93,22 @@ module _ {E : Type 0} (absent : E) (test : ℕ → E → Bool) (m f count : ℕ)
   pub written-first : c ≡ 0 → firstPlace m bad ≡ firstPlace low (fails (c + 1))
   written-first e = whole ∙ rw (low-part, none-high e) (else-none (firstPlace low (fails (c + 1))))
 
-  pub written-none : count ≡ 0 → firstPlace m bad ≡ Nothing
-  written-none e =
-      nowhere bad m
-      (λ p h. let k = samplesWritten m f p in rw (le-ltb (k * m + p) (f + count) (omega (arith, next f m some p h))) (and-false (leb 1 k) (fails k p)))
-    where
-      and-false : (a b : Bool) → (a && false && b) ≡ false
-      and-false true b = refl
-      and-false false b = refl
-
   pub written-ready : firstPlace m bad ≡ Nothing → Ready absent test m f count ss
   unfolding Ready
   written-ready e p k h lo hi brought pos =
       let w = next f m some p h in
       let d : samplesWritten m f p ≡ k = same-sample m p (samplesWritten m f p) k (omega arith) (omega arith) in
       not-false _ (rw (d, le-leb 1 k pos, lt-ltb (k * m + p) (f + count) brought) at (found-none bad m e p h))
+
+  pub ready-found : Ready absent test m f count ss → firstPlace m bad ≡ Nothing
+  unfolding Ready
+  ready-found ready =
+      nowhere bad m
+      (λ p h. let k = samplesWritten m f p in
+      let w = next f m some p h in
+      none-fails (leb 1 k) (ltb (k * m + p) (f + count)) (test k (getD ss p absent))
+      (λ written brought. ready p k h (w .0) (w .1) (ltb-true (k * m + p) (f + count) brought) (leb-true 1 k written)))
+
+  pub written-none : count ≡ 0 → firstPlace m bad ≡ Nothing
+  unfolding Ready
+  written-none e = ready-found (λ p k h lo hi brought pos. absurd (omega arith))
