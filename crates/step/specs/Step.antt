@@ -27,7 +27,7 @@ pedestalOrStored (suc (suc n)) stored = stored
 abbrev pub sumOrMark : ℤ → Bool → ℤ → ℤ → ℤ
 sumOrMark addend over newMark sum = cond (marked addend) addend (cond over newMark sum)
 
--- the entry after the reading x of a sample, with what the settings say of that sample at hand
+-- the entry after the reading x of a sample: multiply; add 128 or the stored sum; store the sum, or a mark
 abbrev pub stepBy : Sample → ℕ → ℤ → ℤ
 stepBy sample x entry =
     let product = sample .weight *ℤ pos x in
