@@ -14,7 +14,7 @@ use Rattle.sums.specs.Feed.{feedOne, feedAll}
 use Rattle.board.specs.Board.{area}
 use Rattle.board.proofs.Soundness.{sound-parts, sides-of}
 use Rattle.operations.specs.Feed.{feedOf, fedSums}
-use Rattle.operations.specs.Feeds.{BoardAndSums, TakesFeed, afterFeed, TakesFeeds, afterFeeds, oneByOne, WritesOne, OneByOne}
+use Rattle.operations.specs.Feeds.{BoardAndSums, TakesFeed, afterFeed, TakesFeeds, afterFeeds, singly, WritesOne, OneByOne}
 use Rattle.operations.proofs.FeedChecked.{feed-taken, feed-passes}
 use Rattle.operations.proofs.Parts.{Passes, left, left-is, left-append, first-passes, others-pass, in-one}
 
@@ -69,16 +69,16 @@ feeds-append : (cut more : List (List ℕ)) (before : BoardAndSums) → afterFee
 feeds-append [] more before = refl
 feeds-append (xs ∷ cut) more before = feeds-append cut more (afterFeed before xs)
 
-ones-append : (xs ys : List ℕ) → oneByOne (xs ++ ys) ≡ oneByOne xs ++ oneByOne ys
+ones-append : (xs ys : List ℕ) → singly (xs ++ ys) ≡ singly xs ++ singly ys
 ones-append [] ys = refl
 ones-append (x ∷ xs) ys = ap (λ (l : List (List ℕ)). (x ∷ []) ∷ l) (ones-append xs ys)
 
 module _ (stated : (before : BoardAndSums) (readings : List ℕ) → TakesFeed before readings → OneByOne before readings) where
-  cut-is : (cut : List (List ℕ)) (before : BoardAndSums) → TakesFeeds before cut → afterFeeds before cut ≡ afterFeeds before (oneByOne (joined cut))
+  cut-is : (cut : List (List ℕ)) (before : BoardAndSums) → TakesFeeds before cut → afterFeeds before cut ≡ afterFeeds before (singly (joined cut))
   cut-is [] before t = refl
   cut-is (xs ∷ cut) before t =
       cut-is cut (afterFeed before xs) (t .1)
-      ∙ rw (← stated before xs (t .0) .leave, ones-append xs (joined cut)) (sym (feeds-append (oneByOne xs) (oneByOne (joined cut)) before))
+      ∙ rw (← stated before xs (t .0) .leave, ones-append xs (joined cut)) (sym (feeds-append (singly xs) (singly (joined cut)) before))
 
   pub any-cut : (before : BoardAndSums) (cut other : List (List ℕ)) → joined cut ≡ joined other → TakesFeeds before cut → TakesFeeds before other
       → afterFeeds before cut ≡ afterFeeds before other

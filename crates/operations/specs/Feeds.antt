@@ -1,11 +1,12 @@
 -- Feeds one after the other: each gets the board and the sums as the one before left them.
-use Prim.Native.Nat.{ℕ, suc, _/_, _%_}
+use Prim.Native.Nat.{ℕ}
 use mathlib.Core.List.{List, [], _∷_, map}
 use mathlib.Core.Path.{_≡_}
 use lib.IntN.{ℤ, pos}
 use lib.ListN.{length, getD}
 use Rattle.checks.specs.declared.Answer.the-variants.{Taken}
 use Rattle.step.specs.Step.{step}
+use Rattle.sums.specs.Feed.{pixelOfReading, sampleOfReading}
 use Rattle.board.specs.declared.Board.{Board}
 use Rattle.board.specs.Board.{area}
 use Rattle.operations.specs.Feed.{feedOf, fedSums}
@@ -34,15 +35,15 @@ afterFeeds before [] = before
 afterFeeds before (readings ∷ cut) = afterFeeds (afterFeed before readings) cut
 
 -- each reading in a Feed of its own
-abbrev pub oneByOne : List ℕ → List (List ℕ)
-oneByOne readings = map (λ x. x ∷ []) readings
+abbrev pub singly : List ℕ → List (List ℕ)
+singly readings = map (λ x. x ∷ []) readings
 
--- the pixel and the sample of the reading that comes next: with f readings fed, on M pixels, pixel f mod M at sample f div M + 1
+-- the pixel and the sample of the reading that comes next: its number, from 0, is how many are fed
 abbrev pub nextPixel : Board → ℕ
-nextPixel b = b .fed % area b
+nextPixel b = pixelOfReading (area b) (b .fed)
 
 abbrev pub nextSample : Board → ℕ
-nextSample b = suc (b .fed / area b)
+nextSample b = sampleOfReading (area b) (b .fed)
 
 -- Feed of the one reading x
 pub record WritesOne (before : BoardAndSums) (x : ℕ) : Type 0 where
@@ -60,6 +61,6 @@ EachWritesOne before (x ∷ readings) = WritesOne before x × EachWritesOne (aft
 
 -- Feed of these readings, and the Feeds of them one at a time: all of these are taken, each writes its one entry, and they leave the same board and sums
 pub record OneByOne (before : BoardAndSums) (readings : List ℕ) : Type 0 where
-  pub taken : TakesFeeds before (oneByOne readings)
+  pub taken : TakesFeeds before (singly readings)
   pub writes : EachWritesOne before readings
-  pub leave : afterFeeds before (oneByOne readings) ≡ afterFeed before readings
+  pub leave : afterFeeds before (singly readings) ≡ afterFeed before readings

@@ -7,8 +7,17 @@ use Rattle.settings.specs.declared.Settings.{Settings}
 use Rattle.step.specs.Step.{step}
 
 -- the array comes whole, row by row, for each sample: reading number f (from 0) of a ramp on m pixels is that of pixel f mod m at sample f div m + 1
+abbrev pub pixelOfReading : ℕ → ℕ → ℕ
+pixelOfReading m f = f % m
+
+abbrev pub sampleOfReading : ℕ → ℕ → ℕ
+sampleOfReading m f = suc (f / m)
+
+-- reading number f
 unfoldable pub feedOne : {E : Type 0} → E → (ℕ → E → ℕ → E) → ℕ → ℕ → ℕ → List E → List E
-feedOne absent step m f x sums = set sums (f % m) (step (suc (f / m)) (getD sums (f % m) absent) x)
+feedOne absent step m f x sums =
+    let p = pixelOfReading m f in
+    set sums p (step (sampleOfReading m f) (getD sums p absent) x)
 
 -- the readings from number f on
 unfoldable pub feedAll : {E : Type 0} → E → (ℕ → E → ℕ → E) → ℕ → ℕ → List ℕ → List E → List E
