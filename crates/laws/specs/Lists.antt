@@ -14,7 +14,7 @@ abbrev pub upFrom : ℕ → ℕ → List ℕ
 upFrom a zero = []
 upFrom a (suc n) = a ∷ upFrom (suc a) n
 
--- one after the other
+-- the elements of some lists, one list after the other
 abbrev pub joined : {A : Type 0} → List (List A) → List A
 joined [] = []
 joined (xs ∷ xss) = xs ++ joined xss

@@ -77,19 +77,19 @@ fn sum_or_mark(addend: i32, above: bool, mark: i32, sum: i32) -> i32
 }
 
 // One reading of a sample, in the order of section 2.3 of the Description: multiply, add 128 or the stored sum, store.
-pub fn accumulate(entry: &mut i32, reading: u16, sample: Sample)
+pub fn accumulate(stored: &mut i32, reading: u16, sample: Sample)
     requires { ⌜ (1 ≤ sample .n) × (sample .n ≤ maxSamples) ⌝ }
     requires { ⌜ weightInRange (sample .weight) ≡ true ⌝ }
     requires { ⌜ thresholdInRange (sample .threshold) ≡ true ⌝ }
     requires { ⌜ readingInRange reading ≡ true ⌝ }
-    requires { ⌜ (1 < sample .n → entryInRange (now entry) ≡ true) ⌝ }
-    ensures { λ r. ⌜ now (entry .exit) ≡ stepBy sample reading (now (entry .entry)) ⌝ }
+    requires { ⌜ (1 < sample .n → entryInRange (now stored) ≡ true) ⌝ }
+    ensures { λ r. ⌜ now (stored .exit) ≡ stepBy sample reading (now (stored .entry)) ⌝ }
 {
     let n = sample.n;
     let product = multiply(sample.weight, reading);
-    let addend = pedestal_or_stored(n, *entry);
+    let addend = pedestal_or_stored(n, *stored);
     let sum = product + addend;
-    *entry = sum_or_mark(
+    *stored = sum_or_mark(
         addend,
         is_above(reading, sample.threshold),
         MARK + n as i32,

@@ -13,7 +13,7 @@ pixelOfReading m f = f % m
 abbrev pub sampleOfReading : ℕ → ℕ → ℕ
 sampleOfReading m f = suc (f / m)
 
--- reading number f
+-- the sums after reading number f, which is x
 unfoldable pub feedOne : {E : Type 0} → E → (ℕ → E → ℕ → E) → ℕ → ℕ → ℕ → List E → List E
 feedOne absent step m f x sums =
     let p = pixelOfReading m f in

@@ -44,7 +44,7 @@ module _ (c : tie.After-pedestal-or-stored) where
   s = c .before .before .before .before
 
   abbrev addend : ℤ
-  addend = pedestalOrStored (n s) (now (s .args .entry))
+  addend = pedestalOrStored (n s) (now (s .args .stored))
 
   abbrev times : ℤ
   times = w s *ℤ pos (s .args .reading)
@@ -56,7 +56,7 @@ module _ (c : tie.After-pedestal-or-stored) where
 
   added : toZ w32 (ofZ w32 (c .pedestal-or-stored .result)) ≡ addend
   added =
-      back w32 (c .pedestal-or-stored .result) (c .pedestal-or-stored .ok) ∙ rw (back w32 (now (s .args .entry)) (c .before .pedestal-or-stored-arg .given)) at (c .pedestal-or-stored .ensures)
+      back w32 (c .pedestal-or-stored .result) (c .pedestal-or-stored .ok) ∙ rw (back w32 (now (s .args .stored)) (c .before .pedestal-or-stored-arg .given)) at (c .pedestal-or-stored .ensures)
 
   fits-sum : SFits w32 (times +ℤ addend)
   fits-sum =
@@ -65,7 +65,7 @@ module _ (c : tie.After-pedestal-or-stored) where
       (omega (
         signed,
         product (w s) (s .args .reading) (h .0) (h .1 .1 .0),
-        range addend (addend-in-range (n s) (now (s .args .entry)) (s .pre .0 .0) (h .1 .1 .1)),
+        range addend (addend-in-range (n s) (now (s .args .stored)) (s .pre .0 .0) (h .1 .1 .1)),
         sum times addend,
       ))
 
