@@ -37,6 +37,7 @@ writes-one before x t =
     let e = t .ramp .length-is in
     let l : b .fed % area b < length (before .sums) = rw e (mod-lt (b .fed) (sides-of b (sound-parts b (t .ramp .whole)) .some)) in
     record {
+      has-entry = l;
       its-entry = rw (is, e) (getD-set-same (before .sums) _ _ (pos 0) l);
       others = λ q ne. rw (is, e) (getD-set-other (before .sums) _ q _ (pos 0) ne);
       as-many = rw is (length-set (before .sums) _ _);

@@ -1,5 +1,5 @@
 -- Feeds one after the other: each gets the board and the sums as the one before left them.
-use Prim.Native.Nat.{ℕ}
+use Prim.Native.Nat.{ℕ, _<_}
 use mathlib.Core.List.{List, [], _∷_, map}
 use mathlib.Core.Path.{_≡_}
 use lib.IntN.{ℤ, pos}
@@ -47,7 +47,8 @@ nextSample b = sampleOfReading (area b) (b .fed)
 
 -- Feed of the one reading x
 pub record WritesOne (before : BoardAndSums) (x : ℕ) : Type 0 where
-  -- the entry of its pixel becomes what the step makes of it
+  -- its pixel has an entry, and that becomes what the step makes of it
+  pub has-entry : nextPixel (before .board) < length (before .sums)
   pub its-entry : let p = nextPixel (before .board) in
       getD (afterFeed before (x ∷ []) .sums) p (pos 0) ≡ step (before .board .«in_force») (nextSample (before .board)) (getD (before .sums) p (pos 0)) x
   -- every other entry is left alone, and there are as many as before

@@ -1,12 +1,13 @@
 -- The laws of one step.
---     addend-one, addend-not    what sample n adds to its product
---     addend-in-range           it is in range
+--     later-adds                what a sample from the second on adds to its product is the stored sum
+--     addend-in-range           what any sample adds to it is in range
 --     weight-in-range           and so is its weight
 --     possible-step             a step takes an entry that is possible for k to one that is possible for k + 1; sample 1 takes any entry
 use Prim.Native.Nat.{ℕ, zero, suc, _≤_, _<_}
 use mathlib.Core.Bool.{Bool, true, false, cond}
 use mathlib.Core.Logic.{inl, inr, ⊎-elim}
 use mathlib.Core.Path.{_≡_, refl}
+use borrow.Author.Tests.{ne-eqb}
 use native.Mathlib.Omega.{arith}
 use lib.IntN.{ℤ, pos, _+ℤ_, _*ℤ_}
 use Rattle.laws.proofs.Ints.{sum, is-le, not-le}
@@ -21,19 +22,14 @@ use Rattle.entries.proofs.Possible.{Mark, Near, fair, is-fair}
 use Rattle.step.specs.Step.{overIt, pedestalOrStored, sumOrMark, step}
 use Rattle.step.proofs.Products.{product}
 
-pub addend-one : (n : ℕ) (e : ℤ) → n ≡ 1 → pos 128 ≡ pedestalOrStored n e
-addend-one n e q = rw q
-
-pub addend-not : (n : ℕ) (e : ℤ) → (n ≡ 1 → ⊥) → e ≡ pedestalOrStored n e
-addend-not zero e q = refl
-addend-not (suc zero) e q = absurd (q refl)
-addend-not (suc (suc n)) e q = refl
+pub later-adds : (n : ℕ) (e : ℤ) → 1 < n → pedestalOrStored n e ≡ e
+later-adds n e l = rw (ne-eqb n 1 (λ q. omega arith))
 
 pub addend-in-range : (n : ℕ) (e : ℤ) → 1 ≤ n → (1 < n → entryInRange e ≡ true) → entryInRange (pedestalOrStored n e) ≡ true
 unfolding entryInRange
 addend-in-range zero e h a = absurd (omega arith)
 addend-in-range (suc zero) e h a = refl
-addend-in-range (suc (suc n)) e h a = a (omega arith)
+addend-in-range (suc (suc n)) e h a = let l : 1 < suc (suc n) = omega arith in rw (later-adds _ e l) (a l)
 
 pub weight-in-range : (s : Settings) → InRange s → (n : ℕ) → weightInRange (weightAt s n) ≡ true
 weight-in-range s r zero = refl
@@ -56,7 +52,8 @@ any-step : (w : ℤ) (above : Bool) (k : ℕ) (e : ℤ) (x : ℕ) → weightInRa
     → let addend = pedestalOrStored (suc k) e in possibleAfter (suc k) (sumOrMark addend above (mark (suc k)) (w *ℤ pos x +ℤ addend)) ≡ true
 any-step w above zero e x hw hx few h = near-step w x hw hx 0 few (pos 128) (omega arith) above
 any-step w above (suc k) e x hw hx few h =
-    ⊎-elim (λ m. mark-step w x hw hx (suc k) few e m above) (λ m. near-step w x hw hx (suc k) few e m above) (fair (suc k) e (h (omega arith)))
+    rw (later-adds (suc (suc k)) e (omega arith))
+    (⊎-elim (λ m. mark-step w x hw hx (suc k) few e m above) (λ m. near-step w x hw hx (suc k) few e m above) (fair (suc k) e (h (omega arith))))
 
 pub possible-step : (s : Settings) → InRange s → (k : ℕ) (e : ℤ) (x : ℕ) → k ≤ 8 → readingInRange x ≡ true → (0 < k → possible s k e ≡ true) → possible s (suc k) (step s (suc k) e x) ≡ true
 unfolding step

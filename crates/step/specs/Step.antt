@@ -1,7 +1,7 @@
 -- What one reading does to one entry, in the order of section 2.3 of the Description: multiply, add 128 or the stored sum, store.
-use Prim.Native.Nat.{ℕ, zero, suc}
+use Prim.Native.Nat.{ℕ}
 use mathlib.Core.Bool.{Bool, cond}
-use lib.Dec.{ltb}
+use lib.Dec.{eqb, ltb}
 use lib.IntN.{ℤ, pos, _+ℤ_, _*ℤ_}
 use Rattle.settings.specs.declared.Settings.{Settings}
 use Rattle.settings.specs.Settings.{weightAt}
@@ -17,11 +17,9 @@ isAbove t x = ltb t x
 abbrev pub isOver : Sample → ℕ → Bool
 isOver sample x = isAbove (sample .threshold) x
 
--- what sample n adds to its product: 128 at sample 1, whatever the entry held; the stored sum at any later one (there is no sample 0)
+-- what sample n adds to its product: 128 at sample 1, whatever the entry held, else the stored sum
 abbrev pub pedestalOrStored : ℕ → ℤ → ℤ
-pedestalOrStored zero stored = stored
-pedestalOrStored (suc zero) stored = pos pedestal
-pedestalOrStored (suc (suc n)) stored = stored
+pedestalOrStored n stored = cond (eqb n 1) (pos pedestal) stored
 
 -- what is stored: a marked entry stays (128 is no mark); a reading over the threshold stores its mark; any other stores the sum
 abbrev pub sumOrMark : ℤ → Bool → ℤ → ℤ → ℤ

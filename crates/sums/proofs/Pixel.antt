@@ -20,7 +20,7 @@ use Rattle.entries.specs.Possible.{possible}
 use Rattle.entries.proofs.Marks.{is-marked, sample-is, sample-none}
 use Rattle.step.specs.Step.{overIt, sumOrMark, step}
 use Rattle.sums.specs.Exact.{exactSum, firstOver, markedBy, entryAfter}
-use Rattle.step.proofs.Steps.{possible-step}
+use Rattle.step.proofs.Steps.{later-adds, possible-step}
 use Rattle.sums.proofs.Bounds.{part, below-marks}
 
 module _ (s : Settings) (r : InRange s) (x : ℕ → ℕ) where
@@ -57,7 +57,7 @@ module _ (s : Settings) (r : InRange s) (x : ℕ → ℕ) where
   pub entry-step : (k : ℕ) (e : ℤ) → (1 ≤ k → e ≡ entryAfter s k x) → step s (suc k) e (x (suc k)) ≡ entryAfter s (suc k) x
   unfolding step firstOf sumTo
   entry-step zero e q = next-entry 0
-  entry-step (suc k) e q = rw (q (omega arith)) (next-entry (suc k))
+  entry-step (suc k) e q = rw (later-adds (suc (suc k)) e (omega arith), q (omega arith)) (next-entry (suc k))
 
   pub entry-possible : ((n : ℕ) → readingInRange (x n) ≡ true) → (k : ℕ) → k ≤ 9 → 0 < k → possible s k (entryAfter s k x) ≡ true
   entry-possible ok zero few l = absurd (omega arith)
