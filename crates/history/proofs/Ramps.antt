@@ -80,9 +80,9 @@ module _ {ℓ : Ledger} {allowed : Allowed} {sums : List ℤ} (ramp : Ramp ℓ a
         all-pass (ℓ .inForce) (parts fed-good .in-force) (area ℓ) (sides fed-good .some) _ (fed-good .readings) (few fed-good)
         left (fed-good .sums left (ramp .handed, refl) left-size) inBits (possible-bits (ℓ .inForce))
         (λ p h l.
-        let n : p < length sums = rw (ramp .size) h in
-        rw (feed-goes, feed-past (pos 0) (step (ℓ .inForce)) (length sums) xs (length (ℓ .readings)) sums p 0 n (omega (arith, length-append (ℓ .readings) xs)) (omega arith))
-        (every-at inBits sums (ramp .bits) (pos 0) p (rw (ramp .size) h)))
+        let within : p < length sums = rw (ramp .size) h in
+        rw (feed-goes, feed-past (pos 0) (step (ℓ .inForce)) (length sums) xs (length (ℓ .readings)) sums p 0 within (omega (arith, length-append (ℓ .readings) xs)) (omega arith))
+        (every-at inBits sums (ramp .bits) (pos 0) p within))
 
     pub fed-ramp : Ramp (effect ℓ (feed xs sums)) (afterTaken (viewOf ℓ) (feed xs sums) allowed) left
     fed-ramp = record { good = fed-good; running = ramp .running; handed = (ramp .handed, refl); size = left-size; bits = left-bits }
