@@ -1,4 +1,6 @@
 // What a frame and each single step of it begin with: a board is opened, updated and started.
+#![tactic(auto)]
+
 ghost use Rattle.std.specs.Prelude.{◌≡◌};
 ghost use Rattle.begin.specs.Begun.{begun};
 

@@ -1,4 +1,6 @@
 // A ramp board: its sides, its settings and the ramp that runs.
+#![tactic(auto)]
+
 use checks::{Answer, Refusal};
 use settings::Settings;
 
@@ -6,7 +8,7 @@ pub mod changes;
 mod open;
 mod sound;
 
-#[derive(Drop)]
+#[derive(Clone, Copy)]
 pub struct Board {
     pub width: usize,
     pub height: usize,
@@ -20,14 +22,14 @@ pub struct Board {
 }
 
 // What an operation answers, with the board as it leaves it.
-#[derive(Drop)]
+#[derive(Clone, Copy)]
 pub struct Outcome {
     pub answer: Answer,
     pub board: Board,
 }
 
 // What Covered says of the settings in force.
-#[derive(Drop)]
+#[derive(Clone, Copy)]
 pub enum Coverage {
     Covered,
     Uncovered,

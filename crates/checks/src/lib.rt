@@ -1,4 +1,6 @@
 // What an operation answers, and the refusals' numbers.
+#![tactic(auto)]
+
 ghost use Rattle.std.specs.Prelude.{◌≡◌};
 ghost use Rattle.checks.specs.Search.{or_else};
 ghost use Rattle.checks.specs.Checks as Def;
@@ -6,20 +8,20 @@ ghost use Rattle.checks.specs.Checks as Def;
 pub mod told;
 
 // A refusal has a number and a place.
-#[derive(Drop)]
+#[derive(Clone, Copy)]
 pub struct Refusal {
     pub number: u8,
     pub place: usize,
 }
 
-#[derive(Drop)]
+#[derive(Clone, Copy)]
 pub enum Answer {
     Taken,
     Refused(Refusal),
 }
 
 // What a search finds: a place, or nothing.
-#[derive(Drop)]
+#[derive(Clone, Copy)]
 pub enum Found {
     At(usize),
     Nothing,

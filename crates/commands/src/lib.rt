@@ -1,10 +1,12 @@
 // The commands of a script, each with its numbers. The bytes of an update, the readings of a feed and the words stay in the list.
+#![tactic(auto)]
+
 ghost use Rattle.commands.specs.Ranges.{InRange};
 
 use check::same;
 use items::{MOST, Numbers, entry, item, natural};
 
-#[derive(Drop)]
+#[derive(Clone, Copy)]
 pub enum Command {
     Open {
         width: usize,

@@ -1,4 +1,6 @@
 // The operations that are lent no buffer of a ramp: Update, Start, Drop, Covered.
+#![tactic(auto)]
+
 ghost use Rattle.std.specs.Prelude.{◌≡◌};
 ghost use Rattle.operations.specs.Update.{update_of};
 ghost use Rattle.operations.specs.Ramp.{start_of, drop_of};

@@ -1,4 +1,6 @@
 // An entry of the sums: a sum, or a mark in its place.
+#![tactic(auto)]
+
 ghost use Rattle.std.specs.Prelude.{◌≡◌, cond, ◌≤◌, pos, ◌-ℤ◌, ◌≤ℤ◌};
 ghost use Rattle.settings.specs.Settings.{max_samples};
 ghost use Rattle.entries.specs.Mark.{marked};

@@ -1,4 +1,6 @@
 // Feed.
+#![tactic(auto)]
+
 ghost use Rattle.std.specs.Prelude.{◌≡◌, true, ◌+◌, ◌^◌, ◌<◌, length};
 ghost use Rattle.checks.specs.Checks.{verdict};
 ghost use Rattle.board.specs.Board.{area, sound};

@@ -1,4 +1,6 @@
 // The fields of a record: each is checked, and written into the settings.
+#![tactic(auto)]
+
 ghost use Rattle.std.specs.Prelude.{◌≡◌};
 ghost use Rattle.checks.specs.Checks.{verdict};
 ghost use Rattle.record.specs.Record.{map_of, field_count, field_of, place_of};
@@ -22,7 +24,7 @@ fn check(field: Field, number: u16) -> Answer
 }
 
 // What the fields of a record say: the answer of the first bad one, the settings with each of them written, and where they end.
-#[derive(Drop)]
+#[derive(Clone, Copy)]
 pub struct Decoded {
     pub answer: Answer,
     pub settings: Settings,

@@ -1,4 +1,6 @@
 // The count of flags in a box.
+#![tactic(auto)]
+
 ghost use Rattle.std.specs.Prelude.{◌≡◌, ◌≤◌, length};
 ghost use Rattle.places.specs.Places.{flag_at};
 ghost use Rattle.places.specs.Counting.{how_many, flag_within};

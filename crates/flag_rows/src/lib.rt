@@ -1,4 +1,6 @@
 // The nearest flag of one row.
+#![tactic(auto)]
+
 ghost use Rattle.std.specs.Prelude.{◌≡◌, true, not, ◌≤◌, ◌<◌, length};
 ghost use Rattle.laws.specs.Lists.{every};
 ghost use Rattle.meaning.specs.Meaning.{is_flag};

@@ -1,4 +1,6 @@
 // The search for the nearest flag, row by row.
+#![tactic(auto)]
+
 ghost use Rattle.std.specs.Prelude.{◌≡◌, ◌+◌, ◌*◌, ◌/◌, ◌≤◌, ◌<◌, length};
 ghost use Rattle.places.specs.Places as Def;
 ghost use Rattle.places.specs.Places.{flag_at};

@@ -1,4 +1,6 @@
 // Looking for the flags of a frame of words: the nearest to a place, and how many lie in a box.
+#![tactic(auto)]
+
 ghost use Rattle.std.specs.Prelude.{◌≡◌};
 ghost use Rattle.checks.specs.Checks.{verdict};
 ghost use Rattle.places.specs.Places.{is_inside};

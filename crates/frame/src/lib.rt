@@ -1,4 +1,6 @@
 // What C and Rust call. A whole frame in one call, and Feed and Read out alone: a refusal's number, 0 if there is none, and its place.
+#![tactic(auto)]
+
 ghost use Rattle.std.specs.Prelude.{◌≡◌};
 ghost use Rattle.checks.specs.Told.{refusal_number, refusal_place};
 ghost use Rattle.whole_frame.specs.Chain.{frame_answer, frame_sums, frame_words};

@@ -1,4 +1,6 @@
 // Check 14: the first entry that isn't possible after k samples.
+#![tactic(auto)]
+
 ghost use Rattle.std.specs.Prelude.{◌≡◌, true, not, ◌&&◌, ◌+◌, ◌≤◌, pos, ◌-ℤ◌, length, get_or, ◌≤ℤ◌};
 ghost use Rattle.laws.specs.Lists.{every};
 ghost use Rattle.checks.specs.Search.{first_place};

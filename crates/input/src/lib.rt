@@ -1,4 +1,6 @@
 // The input of a job: its checks.
+#![tactic(auto)]
+
 ghost use Rattle.std.specs.Prelude.{◌≡◌};
 ghost use Rattle.checks.specs.Checks.{verdict};
 ghost use Rattle.input.specs.Checks.{input_checks};

@@ -1,4 +1,6 @@
 // The numbers of a line: one alone, or all that follow a count, as the bytes of a record or as numbers of 16 bits.
+#![tactic(auto)]
+
 ghost use Rattle.std.specs.Prelude.{◌≡◌, cond, ◌+◌, ◌≤◌, ◌<◌, pos, length, get_or};
 ghost use Rattle.items.specs.Items.{natural_of, up_to, entry_of, byte_items, short_items};
 

@@ -1,4 +1,6 @@
 // The jig: a job comes in on standard input, and its frame goes out as text, or the number of its refusal.
+#![tactic(auto)]
+
 ghost use Rattle.std.specs.Prelude.{◌≡◌, ◌+◌, ◌≤◌, length, take};
 ghost use Rattle.io.specs.Counts.{IsPrefixLen};
 ghost use Rattle.job.specs.Kept.{capacity};

@@ -1,4 +1,6 @@
 // A job of the jig: from the bytes of an input to the words of its frame, or a refusal.
+#![tactic(auto)]
+
 use checks::Answer;
 use input::PIXELS;
 
@@ -11,7 +13,7 @@ pub(crate) const READINGS: usize = 9 * PIXELS + 1;
 pub const CAPACITY: usize = 6 + 255 + 2 * READINGS;
 
 // What comes of a job. The words are the first `count` of the array.
-#[derive(Drop)]
+#[derive(Clone, Copy)]
 pub struct Job {
     pub answer: Answer,
     pub count: usize,

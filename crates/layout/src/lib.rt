@@ -1,4 +1,6 @@
 // The passes over a whole frame: which entries make which word.
+#![tactic(auto)]
+
 ghost use Rattle.std.specs.Prelude.{◌≡◌, true, false, ℕ, ◌*◌, pos, length, get_or};
 ghost use Rattle.laws.specs.Lists.{each};
 ghost use Rattle.settings.specs.Settings.{truncation_in_range};

@@ -1,4 +1,6 @@
 // The lines of a frame, in a buffer that the caller lends. What stands past them is left free.
+#![tactic(auto)]
+
 ghost use Rattle.std.specs.Prelude.{◌≡◌, ◌++◌, ◌+◌, ◌*◌, ◌≤◌, ◌<◌, length, take};
 ghost use Rattle.lines.specs.Lines.{field_text, line_text, lines_text};
 

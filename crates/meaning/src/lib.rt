@@ -1,4 +1,6 @@
 // Read a word: what it means, and whether it is a flag.
+#![tactic(auto)]
+
 ghost use Rattle.std.specs.Prelude.{◌≡◌, ◌≤◌};
 ghost use Rattle.meaning.specs.Meaning.{meaning, read_word, is_flag};
 
@@ -6,7 +8,7 @@ use checks::Refusal;
 use ranges::truncation_in_range;
 
 // What a word means: the limits of its sum, or a flag.
-#[derive(Drop)]
+#[derive(Clone, Copy)]
 pub enum WordRead {
     Ordinary { low: f64, high: f64 },
     Saturated(u16),

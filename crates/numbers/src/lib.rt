@@ -1,4 +1,6 @@
 // The smaller of two numbers, how far one lies beyond another, and a sum modulo 2^32.
+#![tactic(auto)]
+
 ghost use Rattle.std.specs.Prelude.{◌≡◌, ◌-◌, min, ◌+ℤ◌};
 ghost use Rattle.numbers.specs.Wrapped.{wrapped};
 

@@ -1,4 +1,6 @@
 // Numbers of two bytes each, low byte first.
+#![tactic(auto)]
+
 ghost use Rattle.std.specs.Prelude.{◌≡◌, ◌*◌, ◌<◌, ◌≤◌, length, take};
 ghost use Rattle.pairs.specs.Pairs.{pairs};
 

@@ -1,4 +1,6 @@
 // The sum of a ramp: the passes of Feed over readings and sums.
+#![tactic(auto)]
+
 ghost use Rattle.std.specs.Prelude.{◌≡◌, true, ◌≤◌, ◌<◌, length};
 ghost use Rattle.laws.specs.Lists.{every, over};
 ghost use Rattle.settings.specs.Settings.{weight_in_range, threshold_in_range, max_samples, in_range};

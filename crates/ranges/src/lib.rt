@@ -1,4 +1,6 @@
 // The range of each setting.
+#![tactic(auto)]
+
 ghost use Rattle.std.specs.Prelude.{◌≡◌};
 ghost use Rattle.ranges.specs.Ranges.{weight_in_range, weights_in_range, threshold_in_range, truncation_in_range, samples_in_range};
 

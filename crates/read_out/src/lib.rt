@@ -1,4 +1,6 @@
 // Read out.
+#![tactic(auto)]
+
 ghost use Rattle.std.specs.Prelude.{◌≡◌, true, length};
 ghost use Rattle.checks.specs.Checks.{verdict};
 ghost use Rattle.encoding.specs.Frame.{word_count};

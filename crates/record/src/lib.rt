@@ -1,10 +1,12 @@
 // The bytes of an update record: a map of two bytes, then the fields whose bit stands.
+#![tactic(auto)]
+
 ghost use Rattle.std.specs.Prelude.{◌≡◌, get_or};
 ghost use Rattle.record.specs.Record as Def;
 ghost use Rattle.record.specs.Record.{pair_at, width_of, number_at, weight_of};
 
 // A field of an update record. `Weight(i)` is weight i + 1.
-#[derive(Drop)]
+#[derive(Clone, Copy)]
 pub enum Field {
     Weight(usize),
     Threshold,

@@ -1,4 +1,6 @@
 // The replay: a script of calls comes in on standard input; each call's answer, the board it leaves and each frame go out as text.
+#![tactic(auto)]
+
 use crate::player::{Player, Sums, Words};
 use crate::print::text;
 use checks::Found;

@@ -198,7 +198,7 @@ fn call_on(
 }
 
 // The board, the lengths of the sums that are lent and of the others, how many words there are, and whether the spare buffer is lent.
-#[derive(Drop)]
+#[derive(Clone, Copy)]
 pub(crate) struct Player {
     board: Board,
     length: usize,

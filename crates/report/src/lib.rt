@@ -1,4 +1,6 @@
 // The text of a job, in a buffer that the caller lends. What stands past the end of the text is left free: nobody prints it.
+#![tactic(auto)]
+
 ghost use Rattle.std.specs.Prelude.{◌≡◌, ◌≤◌, length, take};
 ghost use Rattle.io.specs.Counts.{IsPrefixLen};
 ghost use Rattle.checks.specs.declared.Answer.TheVariants.{Taken};

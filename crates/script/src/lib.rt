@@ -1,4 +1,6 @@
 // A script of calls on a board: its lines, and what each of them says.
+#![tactic(auto)]
+
 ghost use Rattle.std.specs.Prelude.{◌≡◌, ◌≤◌, max, length, take};
 ghost use Rattle.script.specs.Lines.{line_end, Numbered};
 ghost use Rattle.commands.specs.Ranges.{InRange};

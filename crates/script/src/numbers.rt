@@ -5,7 +5,7 @@ use checks::Found;
 use items::{COUNT, Numbers};
 
 // A number as far as its digits go, and the place after them.
-#[derive(Drop)]
+#[derive(Clone, Copy)]
 struct Number {
     value: u64,
     end: usize,

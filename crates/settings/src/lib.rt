@@ -1,11 +1,13 @@
 // The settings of a ramp board, whether they are in range, and the covered question.
+#![tactic(auto)]
+
 ghost use Rattle.std.specs.Prelude.{◌≡◌};
 ghost use Rattle.settings.specs.Settings as Def;
 
 mod covered;
 mod in_range;
 
-#[derive(Drop)]
+#[derive(Clone, Copy)]
 pub struct Settings {
     // The weights of samples 1 to 9.
     pub weights: [i32; 9],

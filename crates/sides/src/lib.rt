@@ -1,4 +1,6 @@
 // The sides of a board: which ones Open takes, and how many pixels they make.
+#![tactic(auto)]
+
 ghost use Rattle.std.specs.Prelude.{◌≡◌, ◌*◌};
 ghost use Rattle.sides.specs.Sides.{side_taken, sides_taken, of_sides};
 

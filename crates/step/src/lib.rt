@@ -1,4 +1,6 @@
 // What one reading does to one entry.
+#![tactic(auto)]
+
 ghost use Rattle.std.specs.Prelude.{◌≡◌, true, cond, ◌≤◌, ◌<◌, pos, nat_abs, ◌*ℤ◌};
 ghost use Rattle.settings.specs.Settings.{weight_in_range, threshold_in_range, max_samples};
 ghost use Rattle.readings.specs.Readings.{reading_in_range};
@@ -8,7 +10,7 @@ ghost use Rattle.step.specs.Step.{is_above, pedestal_or_stored, sum_or_mark, ste
 use entries::MARK;
 
 // A sample of a ramp: its number, counted from 1, its weight, and the threshold that its readings are held against.
-#[derive(Drop)]
+#[derive(Clone, Copy)]
 pub struct Sample {
     pub n: usize,
     pub weight: i32,

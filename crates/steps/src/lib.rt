@@ -1,4 +1,6 @@
 // Feed and Read out alone: each on the board that Open, Update and Start give, with some readings fed.
+#![tactic(auto)]
+
 ghost use Rattle.std.specs.Prelude.{◌≡◌};
 ghost use Rattle.steps.specs.Steps.{with_fed, feed_answer, feed_leaves, read_out_answer, read_out_leaves};
 

@@ -1,1 +1,2 @@
 // No code: what readings do to the sums, the exact sums, and their laws.
+#![tactic(auto)]

@@ -1,5 +1,7 @@
 // Text in a buffer that the caller lends, from a place on: bytes, numbers, refusals, and what a word means. Each function answers the place after what it put.
 // What stands from there on is left free.
+#![tactic(auto)]
+
 ghost use Rattle.std.specs.Prelude.{◌≡◌, ◌++◌, ◌+◌, ◌≤◌, T, length, take};
 ghost use Rattle.std.specs.Float.{binary64};
 ghost use Rattle.std.specs.Float.Ieee.{in_unsigned};

@@ -1,4 +1,6 @@
 // Update: the checks of a record, and the settings that result.
+#![tactic(auto)]
+
 ghost use Rattle.std.specs.Prelude.{◌≡◌};
 ghost use Rattle.update.specs.Update.{update_of};
 
@@ -8,7 +10,7 @@ use record::{FIELDS, pair};
 use settings::Settings;
 
 // What an update answers, with the settings as it leaves them.
-#[derive(Drop)]
+#[derive(Clone, Copy)]
 pub struct Updated {
     pub answer: Answer,
     pub settings: Settings,

@@ -1,4 +1,6 @@
 // A whole frame in one call.
+#![tactic(auto)]
+
 ghost use Rattle.std.specs.Prelude.{◌≡◌};
 ghost use Rattle.checks.specs.Checks.{first};
 ghost use Rattle.whole_frame.specs.Chain.{fed, read_out, frame_answer, frame_sums, frame_words};

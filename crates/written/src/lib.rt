@@ -1,4 +1,6 @@
 // Check 14 of Feed: of the entries that the ramp has written and that this Feed brings a reading for, the first that isn't possible.
+#![tactic(auto)]
+
 ghost use Rattle.std.specs.Prelude.{◌≡◌, not, ℕ, ◌+◌, ◌*◌, ◌-◌, ◌^◌, ◌≤◌, ◌<◌, pos, length, get_or};
 ghost use Rattle.settings.specs.Settings.{max_samples};
 ghost use Rattle.checks.specs.Search as Search;
