@@ -10,7 +10,7 @@ use mathlib.Core.Path.{◌≡◌, refl, ◌∙◌}
 use native.Mathlib.Omega.{arith}
 use Rattle.checks.specs.declared.Answer.{Answer}
 use Rattle.checks.specs.declared.Answer.TheVariants.{Taken, Refused}
-use Rattle.checks.specs.Checks.{first, verdict, byAnswer}
+use Rattle.checks.specs.Checks.{first, verdict, by_answer}
 use Rattle.checks.proofs.Laws.{verdict_append, both_taken}
 use Rattle.board.specs.declared.Board.{Board}
 use Rattle.board.specs.Board.{area, sides_taken, sound, opened}
@@ -22,11 +22,11 @@ use Rattle.board.proofs.Laws as BoardLaws
 use Rattle.operations.proofs.Laws as OperationLaws
 use Rattle.begin.specs.Begun.{updated, started, begun}
 
-unfed : (a : Answer) (new old : Board) → new.fed ≡ 0 → old.fed ≡ 0 → (byAnswer a new old).fed ≡ 0
+unfed : (a : Answer) (new old : Board) → new.fed ≡ 0 → old.fed ≡ 0 → (by_answer a new old).fed ≡ 0
 unfed Taken new old p q = p
 unfed (Refused r) new old p q = q
 
-within : (a : Answer) (new old : Board) (m : ℕ) → area new ≤ m → area old ≤ m → area (byAnswer a new old) ≤ m
+within : (a : Answer) (new old : Board) (m : ℕ) → area new ≤ m → area old ≤ m → area (by_answer a new old) ≤ m
 within Taken new old m p q = p
 within (Refused r) new old m p q = q
 

@@ -8,7 +8,7 @@ use Rattle.settings.proofs.Parts.{in_range_parts}
 use Rattle.settings.proofs.Laws as SettingsLaws
 use Rattle.checks.specs.declared.Refusal.{Refusal}
 use Rattle.checks.specs.declared.Answer.TheVariants.{Taken, Refused}
-use Rattle.checks.specs.Checks.{when, verdict, byAnswer}
+use Rattle.checks.specs.Checks.{when, verdict, by_answer}
 use Rattle.checks.proofs.Laws.{first_taken, both_taken, when_taken}
 use Rattle.board.specs.Board.{sides_taken, sound, opened}
 use Rattle.board.specs.Open.{open_of}
@@ -16,7 +16,7 @@ use Rattle.board.specs.Laws.{BoardLaws}
 use Rattle.board.proofs.Soundness.{sound_whole}
 
 module _ (w h : ℕ) (binned : Bool) where
-  open_sound : (t : Bool) → sides_taken w h binned ≡ t → sound (byAnswer (when (not t) 1) (opened w h binned) (opened 0 0 false)) ≡ t
+  open_sound : (t : Bool) → sides_taken w h binned ≡ t → sound (by_answer (when (not t) 1) (opened w h binned) (opened 0 0 false)) ≡ t
   unfolding sound sides_taken
   open_sound true e =
       let d = in_range_parts _ (SettingsLaws.laws).defaults_in_range in

@@ -4,7 +4,7 @@ use Rattle.sides.specs.Sides.{of_sides}
 unfoldable pub use Rattle.sides.specs.Sides.{sides_taken}
 use Rattle.settings.specs.Settings.{defaults, in_range}
 use Rattle.checks.specs.declared.Answer.{Answer}
-use Rattle.checks.specs.Checks.{when, byAnswer}
+use Rattle.checks.specs.Checks.{when, by_answer}
 use Rattle.board.specs.declared.Board.{Board}
 use Rattle.board.specs.declared.Outcome.{Outcome}
 
@@ -57,4 +57,4 @@ ended b = record { width = b.width; height = b.height; binned = b.binned; waitin
 
 -- a taken operation leaves a new board, a refused one the board as it was
 abbrev pub leaves : Answer → Board → Board → Outcome
-leaves answer new old = record { answer = answer; board = byAnswer answer new old }
+leaves answer new old = record { answer = answer; board = by_answer answer new old }

@@ -30,6 +30,6 @@ verdict [] = Taken
 verdict (check ∷ checks) = first check (verdict checks)
 
 -- what a taken operation leaves, or what a refused one leaves
-abbrev pub byAnswer {ℓ} : {A : Type ℓ} → Answer → A → A → A
-byAnswer Taken new old = new
-byAnswer (Refused r) new old = old
+abbrev pub by_answer {ℓ} : {A : Type ℓ} → Answer → A → A → A
+by_answer Taken new old = new
+by_answer (Refused r) new old = old

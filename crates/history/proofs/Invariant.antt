@@ -15,7 +15,7 @@ use Rattle.laws.proofs.Tests.{true_and}
 use Rattle.laws.proofs.Elements.{every_append}
 use Rattle.checks.specs.declared.Answer.{Answer}
 use Rattle.checks.specs.declared.Answer.TheVariants.{Taken, Refused}
-use Rattle.checks.specs.Checks.{byAnswer}
+use Rattle.checks.specs.Checks.{by_answer}
 use Rattle.readings.specs.Readings.{reading_in_range}
 use Rattle.sums.proofs.Agrees.{Agrees, agrees_none, agrees_all}
 use Rattle.board.specs.Board.{sound}
@@ -77,11 +77,11 @@ module _ {ℓ : Ledger} {allowed : Allowed} (good : Good ℓ allowed) where
   taken_keeps drop t s = none_fed (effect ℓ drop) allowed refl s
   taken_keeps covered t s = good
 
-  pub keeps : (c : Call) → Good (next ℓ c) (byAnswer (refusal ℓ c) (after_taken (view_of ℓ) c allowed) allowed)
+  pub keeps : (c : Call) → Good (next ℓ c) (by_answer (refusal ℓ c) (after_taken (view_of ℓ) c allowed) allowed)
   keeps c = by (refusal ℓ c) refl (ap sound (sym (board_is ℓ c)) ∙ call_sound (view_of ℓ) c ∙ good.whole)
     where
-      by : (a : Answer) → refusal ℓ c ≡ a → sound (view_of (byAnswer a (effect ℓ c) (refused_effect ℓ c))) ≡ true
-          → Good (byAnswer a (effect ℓ c) (refused_effect ℓ c)) (byAnswer a (after_taken (view_of ℓ) c allowed) allowed)
+      by : (a : Answer) → refusal ℓ c ≡ a → sound (view_of (by_answer a (effect ℓ c) (refused_effect ℓ c))) ≡ true
+          → Good (by_answer a (effect ℓ c) (refused_effect ℓ c)) (by_answer a (after_taken (view_of ℓ) c allowed) allowed)
       by Taken t s = taken_keeps c t s
       by (Refused r) t s = good
 

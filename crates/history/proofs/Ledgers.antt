@@ -12,7 +12,7 @@ use lib.ListN.{length-append}
 use Rattle.settings.specs.Covered.{is_covered}
 use Rattle.checks.specs.declared.Answer.{Answer}
 use Rattle.checks.specs.declared.Answer.TheVariants.{Taken, Refused}
-use Rattle.checks.specs.Checks.{verdict, byAnswer}
+use Rattle.checks.specs.Checks.{verdict, by_answer}
 use Rattle.board.specs.declared.Board.{Board}
 use Rattle.board.specs.declared.Coverage.TheVariants.{Covered, Uncovered}
 use Rattle.board.specs.Board.{sound}
@@ -49,11 +49,11 @@ answer_is ℓ drop = refl
 answer_is ℓ covered = says_all (verdict (covered_checks (view_of ℓ))) (is_covered ℓ.in_force)
 
 -- what the checks leave of a board is what the ledger shows, where what a taken call leaves is
-shown : {b : Board} (a : Answer) (new old : Ledger) → b ≡ view_of new → byAnswer a b (view_of old) ≡ view_of (byAnswer a new old)
+shown : {b : Board} (a : Answer) (new old : Ledger) → b ≡ view_of new → by_answer a b (view_of old) ≡ view_of (by_answer a new old)
 shown Taken new old e = e
 shown (Refused r) new old e = refl
 
-unchanged : (a : Answer) (ℓ : Ledger) → view_of ℓ ≡ view_of (byAnswer a ℓ ℓ)
+unchanged : (a : Answer) (ℓ : Ledger) → view_of ℓ ≡ view_of (by_answer a ℓ ℓ)
 unchanged Taken ℓ = refl
 unchanged (Refused r) ℓ = refl
 

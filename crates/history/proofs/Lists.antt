@@ -8,7 +8,7 @@ use mathlib.Core.Bool.{Bool}
 use mathlib.Core.List.{List, [], ◌∷◌}
 use mathlib.Core.Path.{◌≡◌, refl}
 use Rattle.checks.specs.declared.Answer.TheVariants.{Taken}
-use Rattle.checks.specs.Checks.{byAnswer}
+use Rattle.checks.specs.Checks.{by_answer}
 use Rattle.board.specs.Open.{open_of}
 use Rattle.history.specs.Calls.{Call, Ledger, fresh, view_of, refusal, next, Allowed, any_sums, after_taken, Moment, moments}
 use Rattle.history.specs.Demands.{Every, played, Always, Demand1, Demand2, NoFalseWord, SaidCovered, Honest}
@@ -20,7 +20,7 @@ use Rattle.history.proofs.Frames.{frame_is, frame_claim}
 -- K is the kind of calls, I what holds before each, P the claim
 module _ (K : Moment → Type 0) (I : Ledger → Allowed → Type 0) (P : Moment → Type 0)
     (kept : (ℓ : Ledger) (allowed : Allowed) → I ℓ allowed → (c : Call) → K (found ℓ allowed c)
-    → I (next ℓ c) (byAnswer (refusal ℓ c) (after_taken (view_of ℓ) c allowed) allowed))
+    → I (next ℓ c) (by_answer (refusal ℓ c) (after_taken (view_of ℓ) c allowed) allowed))
     (claim : (ℓ : Ledger) (allowed : Allowed) → I ℓ allowed → (c : Call) → K (found ℓ allowed c) → P (found ℓ allowed c)) where
   everywhere : (calls : List Call) {ℓ : Ledger} {allowed : Allowed} → I ℓ allowed
       → Every K (moments ℓ (view_of ℓ) allowed calls) → Every P (moments ℓ (view_of ℓ) allowed calls)

@@ -10,7 +10,7 @@ use Rattle.settings.specs.Settings.{defaults}
 use Rattle.settings.proofs.Laws.{laws}
 use Rattle.checks.specs.declared.Answer.{Answer}
 use Rattle.checks.specs.declared.Answer.TheVariants.{Taken, Refused}
-use Rattle.checks.specs.Checks.{byAnswer}
+use Rattle.checks.specs.Checks.{by_answer}
 use Rattle.board.specs.declared.Coverage.TheVariants.{Covered}
 use Rattle.board.specs.Open.{open_of}
 use Rattle.operations.specs.Covered.{coverage_of}
@@ -37,7 +37,7 @@ module _ {ℓ : Ledger} (d : Defaults ℓ) where
   stays : (c : Call) → ((bytes : List ℕ) → c ≡ update bytes → refusal ℓ c ≡ Taken → ⊥) → Defaults (next ℓ c)
   stays c kept = by (refusal ℓ c) refl
     where
-      by : (a : Answer) → refusal ℓ c ≡ a → Defaults (byAnswer a (effect ℓ c) (refused_effect ℓ c))
+      by : (a : Answer) → refusal ℓ c ≡ a → Defaults (by_answer a (effect ℓ c) (refused_effect ℓ c))
       by Taken t = taken_stays c (λ bytes e. kept bytes e t)
       by (Refused r) t = d
 

@@ -5,7 +5,7 @@ use Rattle.settings.specs.Settings.{defaults}
 use Rattle.update.specs.Update.{resulting}
 use Rattle.checks.specs.declared.Answer.{Answer}
 use Rattle.checks.specs.declared.Answer.TheVariants.{Taken, Refused}
-use Rattle.checks.specs.Checks.{verdict, byAnswer}
+use Rattle.checks.specs.Checks.{verdict, by_answer}
 use Rattle.board.specs.declared.Board.{Board}
 use Rattle.board.specs.declared.Outcome.{Outcome}
 use Rattle.board.specs.declared.Coverage.{Coverage}
@@ -91,7 +91,7 @@ abbrev pub refused_effect : Ledger → Call → Ledger
 refused_effect ℓ c = ℓ
 
 abbrev pub next : Ledger → Call → Ledger
-next ℓ c = byAnswer (refusal ℓ c) (effect ℓ c) (refused_effect ℓ c)
+next ℓ c = by_answer (refusal ℓ c) (effect ℓ c) (refused_effect ℓ c)
 
 -- ---- the board through the list, by the definitions that the operations' contracts cite
 
@@ -142,4 +142,4 @@ unfoldable pub moments : Ledger → Board → Allowed → List Call → List Mom
 moments ℓ b allowed [] = []
 moments ℓ b allowed (c ∷ calls) =
     record { ledger = ℓ; board = b; allowed = allowed; call = c }
-    ∷ moments (next ℓ c) (outcome_of b c).board (byAnswer (refusal ℓ c) (after_taken b c allowed) allowed) calls
+    ∷ moments (next ℓ c) (outcome_of b c).board (by_answer (refusal ℓ c) (after_taken b c allowed) allowed) calls

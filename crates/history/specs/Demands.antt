@@ -7,7 +7,7 @@ use Rattle.settings.specs.Settings.{defaults, in_range}
 use Rattle.settings.specs.Covered.{ceiling, is_covered}
 use Rattle.checks.specs.declared.Answer.{Answer}
 use Rattle.checks.specs.declared.Answer.TheVariants.{Taken, Refused}
-use Rattle.checks.specs.Checks.{byAnswer}
+use Rattle.checks.specs.Checks.{by_answer}
 use Rattle.readings.specs.Readings.{reading_in_range}
 use Rattle.sums.specs.Feed.{sums_after}
 use Rattle.sums.specs.Exact.{exact_sum}
@@ -48,10 +48,10 @@ Always P = (w h : ℕ) (binned : Bool) → (open_of w h binned).answer ≡ Taken
 abbrev pub Gives : Ledger → Board → Call → Type 0
 Gives ℓ b (feed readings sums) =
     fed_sums b readings sums
-    ≡ byAnswer (refusal ℓ (feed readings sums)) (sums_after ℓ.in_force (length ℓ.readings) readings sums) sums
+    ≡ by_answer (refusal ℓ (feed readings sums)) (sums_after ℓ.in_force (length ℓ.readings) readings sums) sums
 Gives ℓ b (read_out sums output) =
     read_out_words b sums output
-    ≡ byAnswer (refusal ℓ (read_out sums output)) (frame_of ℓ.width ℓ.binned ℓ.in_force.truncation sums) output
+    ≡ by_answer (refusal ℓ (read_out sums output)) (frame_of ℓ.width ℓ.binned ℓ.in_force.truncation sums) output
 Gives ℓ b (update bytes) = Unit {0}
 Gives ℓ b start = Unit {0}
 Gives ℓ b drop = Unit {0}

@@ -15,7 +15,7 @@ use lib.Seq.{take_at}
 use Rattle.checks.specs.declared.Refusal.{Refusal}
 use Rattle.checks.specs.declared.Answer.{Answer}
 use Rattle.checks.specs.declared.Answer.TheVariants.{Taken, Refused}
-use Rattle.checks.specs.Checks.{refusal, first, verdict, byAnswer}
+use Rattle.checks.specs.Checks.{refusal, first, verdict, by_answer}
 use Rattle.checks.proofs.Laws.{first_taken, verdict_append}
 use Rattle.record.specs.Record.{map_of}
 use Rattle.update.proofs.Overlong.{longest}
@@ -83,13 +83,13 @@ module _ (bytes : List ℕ) (total : ℕ) where
       by Taken e = sym (enough_answer _ _ _ _ _ _ max_readings (many e) (readings_of bytes))
       by (Refused r) e = refl
 
-  pub words_are : job_words bytes total ≡ byAnswer (job_answer bytes total) (words_of bytes (first_readings bytes)) []
+  pub words_are : job_words bytes total ≡ by_answer (job_answer bytes total) (words_of bytes (first_readings bytes)) []
   unfolding job_words
   words_are = rw chain (by (verdict (input_checks bytes total)) refl)
     where
       by : (v : Answer) → verdict (input_checks bytes total) ≡ v
-          → byAnswer (first v (answer_of bytes (readings_of bytes))) (words_of bytes (readings_of bytes)) []
-          ≡ byAnswer (first v (answer_of bytes (readings_of bytes))) (words_of bytes (first_readings bytes)) []
+          → by_answer (first v (answer_of bytes (readings_of bytes))) (words_of bytes (readings_of bytes)) []
+          ≡ by_answer (first v (answer_of bytes (readings_of bytes))) (words_of bytes (first_readings bytes)) []
       by Taken e = rw (enough_words (width_of bytes) (height_of bytes) (is_binned bytes) (record_of bytes) (zero_sums bytes) (zero_words bytes) max_readings (many e) (readings_of bytes))
       by (Refused r) e = refl
 
@@ -98,7 +98,7 @@ module _ (bytes : List ℕ) (total : ℕ) where
     pub overlong_is : job_answer bytes total ≡ first (verdict (input_checks bytes total)) (overlong_answer (width_of bytes) (height_of bytes) (is_binned bytes) (map_of (record_of bytes)))
     overlong_is = chain ∙ rw (overlong_answer_lem (width_of bytes) (height_of bytes) (is_binned bytes) (record_of bytes) (zero_sums bytes) (zero_words bytes) long (readings_of bytes))
 
-    pub overlong_refused : {A : Type 0} (new old : A) → byAnswer (job_answer bytes total) new old ≡ old
+    pub overlong_refused : {A : Type 0} (new old : A) → by_answer (job_answer bytes total) new old ≡ old
     unfolding verdict
     overlong_refused new old = rw overlong_is (refused_last (verdict (input_checks bytes total) ∷ overlong_checks (width_of bytes) (height_of bytes) (is_binned bytes) (map_of (record_of bytes))) (refusal 4) new old)
 

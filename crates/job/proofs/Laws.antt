@@ -9,7 +9,7 @@ use lib.ListN.{length, get_or, take, drop, length-take, length-drop}
 use lib.Seq.{take_all, get_or-take, take-take}
 use Rattle.laws.proofs.Tests.{cases}
 use Rattle.laws.proofs.Parts.{part_at}
-use Rattle.checks.specs.Checks.{byAnswer}
+use Rattle.checks.specs.Checks.{by_answer}
 use Rattle.begin.specs.Begun.{started}
 use Rattle.whole_frame.specs.Chain.{frame_answer, frame_words}
 use Rattle.pairs.specs.Pairs.{pairs}
@@ -52,7 +52,7 @@ module _ (bytes : List ℕ) (total n : ℕ) (room : capacity ≤ n) where
   record Same : Type 0 where
     pub answer : job_answer (take n bytes) total ≡ job_answer bytes total
     pub words : job_words (take n bytes) total ≡ job_words bytes total
-    pub truncation : byAnswer (job_answer bytes total) (truncation_of (take n bytes)) 0 ≡ byAnswer (job_answer bytes total) (truncation_of bytes) 0
+    pub truncation : by_answer (job_answer bytes total) (truncation_of (take n bytes)) 0 ≡ by_answer (job_answer bytes total) (truncation_of bytes) 0
 
   -- the length of the record is a byte: what matters lies in the first n
   module _ (small : record_length bytes ≤ 255) where

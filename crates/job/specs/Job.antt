@@ -1,7 +1,7 @@
 -- What comes of a job.
 use Rattle.std.specs.Prelude.{ℕ, ◌/◌, cond, List, [], ◌∷◌, ◌++◌, ◌≡◌, ℤ, pos, length, take, replicate}
 use Rattle.checks.specs.declared.Answer.{Answer}
-use Rattle.checks.specs.Checks.{verdict, byAnswer}
+use Rattle.checks.specs.Checks.{verdict, by_answer}
 use Rattle.encoding.specs.Frame.{word_count}
 use Rattle.begin.specs.Begun.{started}
 use Rattle.whole_frame.specs.Chain.{frame_answer, frame_words}
@@ -28,7 +28,7 @@ job_answer bytes total =
 -- the words of a taken job; none of a refused one
 unfoldable pub job_words : List ℕ → ℕ → List ℕ
 job_words bytes total =
-    byAnswer
+    by_answer
     (job_answer bytes total)
     (frame_words (width_of bytes) (height_of bytes) (is_binned bytes) (record_of bytes) (readings_of bytes) (zero_sums bytes) (zero_words bytes))
     []
@@ -51,5 +51,5 @@ pub record Result (bytes : List ℕ) (total : ℕ) (job : Job) : Type 0 where
   pub answer : job.answer ≡ job_answer bytes total
   pub words : take job.count job.words ≡ job_words bytes total
   pub count : job.count ≡ length (job_words bytes total)
-  pub columns : job.columns ≡ byAnswer (job_answer bytes total) (columns_of bytes) 0
-  pub truncation : job.truncation ≡ byAnswer (job_answer bytes total) (truncation_of bytes) 0
+  pub columns : job.columns ≡ by_answer (job_answer bytes total) (columns_of bytes) 0
+  pub truncation : job.truncation ≡ by_answer (job_answer bytes total) (truncation_of bytes) 0

@@ -15,7 +15,7 @@ use Rattle.update.proofs.Laws as UpdateLaws
 use Rattle.checks.specs.declared.Refusal.{Refusal}
 use Rattle.checks.specs.declared.Answer.{Answer}
 use Rattle.checks.specs.declared.Answer.TheVariants.{Taken, Refused}
-use Rattle.checks.specs.Checks.{verdict, byAnswer}
+use Rattle.checks.specs.Checks.{verdict, by_answer}
 use Rattle.checks.proofs.Laws.{both_taken}
 use Rattle.entries.specs.Possible.{possible}
 use Rattle.written.proofs.Intervals.{written_none}
@@ -64,14 +64,14 @@ feed_sound b xs sums =
 
 -- ---- what each keeps
 
-update_waiting : (a : Answer) (b : Board) (t : Settings) → byAnswer a (with_waiting t b) b ≡ with_waiting (byAnswer a (with_waiting t b) b).waiting b
+update_waiting : (a : Answer) (b : Board) (t : Settings) → by_answer a (with_waiting t b) b ≡ with_waiting (by_answer a (with_waiting t b) b).waiting b
 update_waiting Taken b t = refl
 update_waiting (Refused r) b t = refl
 
-start_in_force : (a : Answer) (b : Board) → a ≡ Taken → (byAnswer a (begun b) b).in_force ≡ b.waiting
+start_in_force : (a : Answer) (b : Board) → a ≡ Taken → (by_answer a (begun b) b).in_force ≡ b.waiting
 start_in_force a b e = rw e
 
-start_refused : (a : Answer) (b : Board) (r : Refusal) → a ≡ Refused r → byAnswer a (begun b) b ≡ b
+start_refused : (a : Answer) (b : Board) (r : Refusal) → a ≡ Refused r → by_answer a (begun b) b ≡ b
 start_refused a b r e = rw e
 
 -- ---- 99

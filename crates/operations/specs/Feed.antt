@@ -2,7 +2,7 @@
 use Rattle.std.specs.Prelude.{ℕ, ◌+◌, not, List, [], ◌∷◌, ◌++◌, ltb, ℤ, pos, length, get_or}
 use Rattle.checks.specs.declared.Answer.{Answer}
 use Rattle.checks.specs.Search.{first_place}
-use Rattle.checks.specs.Checks.{when, found, verdict, byAnswer}
+use Rattle.checks.specs.Checks.{when, found, verdict, by_answer}
 use Rattle.readings.specs.Readings.{reading_in_range}
 use Rattle.entries.specs.Possible.{possible}
 use Rattle.sums.specs.Feed.{sums_after}
@@ -34,4 +34,4 @@ feed_of b readings sums = leaves (verdict (feed_checks b readings sums)) (extend
 -- the sums as Feed leaves them
 unfoldable pub fed_sums : Board → List ℕ → List ℤ → List ℤ
 fed_sums b readings sums =
-    byAnswer (verdict (feed_checks b readings sums)) (sums_after b.in_force b.fed readings sums) sums
+    by_answer (verdict (feed_checks b readings sums)) (sums_after b.in_force b.fed readings sums) sums

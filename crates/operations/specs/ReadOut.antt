@@ -2,7 +2,7 @@
 use Rattle.std.specs.Prelude.{ℕ, not, List, [], ◌∷◌, ◌++◌, ltb, eqb, ℤ, pos, length, get_or}
 use Rattle.checks.specs.declared.Answer.{Answer}
 use Rattle.checks.specs.Search.{first_place}
-use Rattle.checks.specs.Checks.{when, found, verdict, byAnswer}
+use Rattle.checks.specs.Checks.{when, found, verdict, by_answer}
 use Rattle.entries.specs.Possible.{possible}
 use Rattle.encoding.specs.Frame.{word_count, frame_of}
 use Rattle.board.specs.declared.Board.{Board}
@@ -28,4 +28,4 @@ read_out_of b sums output = leaves (verdict (read_out_checks b sums output)) (en
 -- the output as Read out leaves it; the sums are only read
 unfoldable pub read_out_words : Board → List ℤ → List ℕ → List ℕ
 read_out_words b sums output =
-    byAnswer (verdict (read_out_checks b sums output)) (frame_of b.width b.binned b.in_force.truncation sums) output
+    by_answer (verdict (read_out_checks b sums output)) (frame_of b.width b.binned b.in_force.truncation sums) output

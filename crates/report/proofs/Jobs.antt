@@ -8,7 +8,7 @@ use native.Mathlib.Omega.{arith}
 use lib.ListN.{length, take, length-take}
 use Rattle.checks.specs.declared.Answer.{Answer}
 use Rattle.checks.specs.declared.Answer.TheVariants.{Taken, Refused}
-use Rattle.checks.specs.Checks.{verdict, byAnswer}
+use Rattle.checks.specs.Checks.{verdict, by_answer}
 use Rattle.checks.proofs.Laws.{verdict_append, verdict_rest, both_taken, when_taken}
 use Rattle.board.proofs.Soundness.{Sides, sides_parts}
 use Rattle.job.specs.declared.Job.{Job}
@@ -44,7 +44,7 @@ module _ (bytes : List ℕ) (total : ℕ) where
   text_is job r = rw (r.answer, r.words, r.columns, r.truncation) (by (job_answer bytes total))
     where
       by : (a : Answer)
-          → answer_text a (byAnswer a (columns_of bytes) 0) (byAnswer a (truncation_of bytes) 0) (job_words bytes total)
+          → answer_text a (by_answer a (columns_of bytes) 0) (by_answer a (truncation_of bytes) 0) (job_words bytes total)
           ≡ answer_text a (columns_of bytes) (truncation_of bytes) (job_words bytes total)
       by Taken = refl
       by (Refused f) = refl

@@ -8,7 +8,7 @@ use lib.Seq.{take_all}
 use Rattle.laws.specs.Lists.{each, every, any_of, total}
 use Rattle.checks.specs.declared.Answer.TheVariants.{Taken}
 use Rattle.checks.specs.Search.{first_place}
-use Rattle.checks.specs.Checks.{verdict, byAnswer}
+use Rattle.checks.specs.Checks.{verdict, by_answer}
 use Rattle.settings.specs.Settings.{in_range}
 use Rattle.record.specs.Record.{stands, field_of, place_of, weight_of}
 use Rattle.update.specs.Update as Update
@@ -43,8 +43,8 @@ some_job : List ℕ → ℕ → Job
 some_job bytes total = record {
   answer = job_answer bytes total;
   count = length (job_words bytes total);
-  columns = byAnswer (job_answer bytes total) (columns_of bytes) 0;
-  truncation = byAnswer (job_answer bytes total) (truncation_of bytes) 0;
+  columns = by_answer (job_answer bytes total) (columns_of bytes) 0;
+  truncation = by_answer (job_answer bytes total) (truncation_of bytes) 0;
   words = job_words bytes total;
 }
 

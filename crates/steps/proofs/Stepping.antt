@@ -8,7 +8,7 @@ use mathlib.Core.Path.{◌≡◌, refl, ap, ◌∙◌}
 use lib.IntN.{ℤ}
 use Rattle.checks.specs.declared.Answer.{Answer}
 use Rattle.checks.specs.declared.Answer.TheVariants.{Taken, Refused}
-use Rattle.checks.specs.Checks.{first, verdict, byAnswer}
+use Rattle.checks.specs.Checks.{first, verdict, by_answer}
 use Rattle.checks.proofs.Laws.{first_taken}
 use Rattle.operations.specs.Feed.{feed_of, fed_sums}
 use Rattle.operations.specs.ReadOut.{read_out_of, read_out_words}
@@ -17,7 +17,7 @@ use Rattle.begin.proofs.Beginning.{begun_then}
 use Rattle.steps.specs.Steps.{part_fed, all_fed, feed_answer, feed_leaves, read_out_answer, read_out_leaves}
 
 -- a refused operation leaves what it was given, whether it is asked once or twice
-once : {A : Type 0} (a : Answer) (new old : A) → byAnswer a (byAnswer a new old) old ≡ byAnswer a new old
+once : {A : Type 0} (a : Answer) (new old : A) → by_answer a (by_answer a new old) old ≡ by_answer a new old
 once Taken new old = refl
 once (Refused r) new old = refl
 

@@ -1,7 +1,7 @@
 -- One step of a frame: Feed or Read out alone, on the board that Open, Update and Start give, with some readings of the ramp fed.
 use Rattle.std.specs.Prelude.{ℕ, Bool, List, [], ◌∷◌, ℤ}
 use Rattle.checks.specs.declared.Answer.{Answer}
-use Rattle.checks.specs.Checks.{verdict, byAnswer}
+use Rattle.checks.specs.Checks.{verdict, by_answer}
 use Rattle.board.specs.declared.Board.{Board}
 use Rattle.board.specs.Board.{wanted}
 use Rattle.board.specs.Open.{open_of}
@@ -37,7 +37,7 @@ feed_answer width height binned bytes count readings sums =
 -- the sums as Feed leaves them; after a refusal, whichever operation's, as they were
 unfoldable pub feed_leaves : ℕ → ℕ → Bool → List ℕ → ℕ → List ℕ → List ℤ → List ℤ
 feed_leaves width height binned bytes count readings sums =
-    byAnswer (feed_answer width height binned bytes count readings sums) (fed_sums (part_fed width height binned bytes count) readings sums) sums
+    by_answer (feed_answer width height binned bytes count readings sums) (fed_sums (part_fed width height binned bytes count) readings sums) sums
 
 -- ---- Read out
 
@@ -55,4 +55,4 @@ read_out_answer width height binned bytes sums output =
 -- the output as Read out leaves it; after a refusal, whichever operation's, as it was
 unfoldable pub read_out_leaves : ℕ → ℕ → Bool → List ℕ → List ℤ → List ℕ → List ℕ
 read_out_leaves width height binned bytes sums output =
-    byAnswer (read_out_answer width height binned bytes sums output) (read_out_words (all_fed width height binned bytes) sums output) output
+    by_answer (read_out_answer width height binned bytes sums output) (read_out_words (all_fed width height binned bytes) sums output) output

@@ -14,7 +14,7 @@ use Rattle.laws.proofs.Every.{every_all, every_each}
 use Rattle.laws.proofs.Elements.{every_set}
 use Rattle.checks.specs.declared.Answer.{Answer}
 use Rattle.checks.specs.declared.Answer.TheVariants.{Taken, Refused}
-use Rattle.checks.specs.Checks.{verdict, byAnswer}
+use Rattle.checks.specs.Checks.{verdict, by_answer}
 use Rattle.checks.proofs.Laws.{verdict_each, both_taken, verdict_rest, when_taken}
 use Rattle.record.specs.declared.Field.{Field}
 use Rattle.record.specs.declared.Field.TheVariants.{Weight, Threshold, Truncation, Samples}
@@ -71,6 +71,6 @@ stays_in_range s bytes e =
     by (verdict (update_checks bytes))
     (λ t. fields_kept bytes field_count s (fields_of s e) (verdict_rest _ _ (verdict_rest _ _ (verdict_rest _ _ t))))
   where
-    by : (a : Answer) → (a ≡ Taken → Fields (resulting bytes s)) → in_range (byAnswer a (resulting bytes s) s) ≡ true
+    by : (a : Answer) → (a ≡ Taken → Fields (resulting bytes s)) → in_range (by_answer a (resulting bytes s) s) ≡ true
     by Taken h = of_fields (resulting bytes s) (h refl)
     by (Refused r) h = e

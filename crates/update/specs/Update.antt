@@ -1,7 +1,7 @@
 -- Update: its checks, and its outcome.
 use Rattle.std.specs.Prelude.{ℕ, not, List, ◌∷◌, ltb, eqb, length}
 use Rattle.checks.specs.declared.Answer.{Answer}
-use Rattle.checks.specs.Checks.{when, verdict, byAnswer}
+use Rattle.checks.specs.Checks.{when, verdict, by_answer}
 use Rattle.record.specs.Record.{map_of, field_count, unknown_bit, place_of}
 use Rattle.settings.specs.declared.Settings.{Settings}
 use Rattle.fields.specs.Fields.{field_checks}
@@ -20,4 +20,4 @@ update_checks bytes =
 unfoldable pub update_of : Settings → List ℕ → Updated
 update_of s bytes =
     let answer = verdict (update_checks bytes) in
-    record { answer = answer; settings = byAnswer answer (resulting bytes s) s }
+    record { answer = answer; settings = by_answer answer (resulting bytes s) s }

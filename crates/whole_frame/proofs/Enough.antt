@@ -16,7 +16,7 @@ use Rattle.laws.proofs.Tests.{cases}
 use Rattle.checks.specs.declared.Refusal.{Refusal}
 use Rattle.checks.specs.declared.Answer.{Answer}
 use Rattle.checks.specs.declared.Answer.TheVariants.{Taken, Refused}
-use Rattle.checks.specs.Checks.{refusal, when, first, verdict, byAnswer}
+use Rattle.checks.specs.Checks.{refusal, when, first, verdict, by_answer}
 use Rattle.checks.proofs.Laws.{first_taken, verdict_append}
 use Rattle.record.specs.Record.{map_of, unknown_bit}
 use Rattle.update.proofs.Overlong.{longest, overlong}
@@ -42,7 +42,7 @@ crowded b xs sums h = verdict_append (ramp_checks b (length sums)) (reading_chec
     by Taken e = rw (lt-ltb (wanted b) (b.fed + length xs) (omega (arith, wanted_nine b (sound_parts b (ramp_taken b (length sums) e).whole))))
     by (Refused r) e = refl
 
-pub refused_last : {A : Type 0} (l : List Answer) (r : Refusal) (x y : A) → byAnswer (verdict (l ++ Refused r ∷ [])) x y ≡ y
+pub refused_last : {A : Type 0} (l : List Answer) (r : Refusal) (x y : A) → by_answer (verdict (l ++ Refused r ∷ [])) x y ≡ y
 unfolding verdict
 refused_last [] r x y = refl
 refused_last (Taken ∷ l) r x y = refused_last l r x y

@@ -2,7 +2,7 @@
 -- the one before left, and Read out the sums that Feed left.
 use Rattle.std.specs.Prelude.{ℕ, Bool, List, [], ◌∷◌, ℤ}
 use Rattle.checks.specs.declared.Answer.{Answer}
-use Rattle.checks.specs.Checks.{verdict, byAnswer}
+use Rattle.checks.specs.Checks.{verdict, by_answer}
 use Rattle.board.specs.declared.Board.{Board}
 use Rattle.board.specs.declared.Outcome.{Outcome}
 use Rattle.board.specs.Open.{open_of}
@@ -33,12 +33,12 @@ frame_answer width height binned bytes readings sums output =
 -- the sums and the words as the chain leaves them; after a refusal, whichever operation's, as they were
 unfoldable pub frame_sums : ℕ → ℕ → Bool → List ℕ → List ℕ → List ℤ → List ℕ → List ℤ
 frame_sums width height binned bytes readings sums output =
-    byAnswer (frame_answer width height binned bytes readings sums output) (fed_sums (started width height binned bytes).board readings sums) sums
+    by_answer (frame_answer width height binned bytes readings sums output) (fed_sums (started width height binned bytes).board readings sums) sums
 
 unfoldable pub frame_words : ℕ → ℕ → Bool → List ℕ → List ℕ → List ℤ → List ℕ → List ℕ
 frame_words width height binned bytes readings sums output =
     let b = (started width height binned bytes).board in
-    byAnswer
+    by_answer
     (frame_answer width height binned bytes readings sums output)
     (read_out_words (fed b readings sums).board (fed_sums b readings sums) output)
     output
