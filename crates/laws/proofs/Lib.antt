@@ -10,3 +10,4 @@ pub mod Elements
 pub mod Over
 pub mod Parts
 pub mod Quarters
+pub mod Tables
