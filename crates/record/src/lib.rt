@@ -43,6 +43,7 @@ pub fn pair(bytes: &[u8], at: usize) -> u16
 }
 
 // The field of a bit.
+#[tactic(auto, unfolding(crate::specs::Record::field_of))]
 pub fn field_of(bit: usize) -> Field
     ensures { result ≡ Def.field_of bit }
 {
