@@ -1,0 +1,11 @@
+-- The places filled so far.
+use Rattle.std.proofs.Common.{◌-◌}
+use Rattle.items.specs.Items.{short_item}
+use Rattle.items.proofs.Filled.{Filled}
+use Rattle.items.proofs.shorts_of.Given as goal
+
+abbrev pub invariant-loop-i : goal.invariant-loop-i
+invariant-loop-i l = Filled (short_item l.same l.list) l.shorts l.i
+
+abbrev pub decreases-loop-i : goal.decreases-loop-i
+decreases-loop-i l = 4096 - l.i
