@@ -2,3 +2,4 @@
 pub mod Search
 pub mod Checks
 pub mod Told
+pub mod Known

@@ -1,2 +1,3 @@
 -- The laws of reading a word.
 pub mod Laws
+pub mod Known

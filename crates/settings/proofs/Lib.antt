@@ -2,3 +2,4 @@
 pub mod Weights
 pub mod Parts
 pub mod Laws
+pub mod Known

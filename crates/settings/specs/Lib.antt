@@ -2,3 +2,4 @@
 pub mod Settings
 pub mod Covered
 pub mod Laws
+pub mod Known

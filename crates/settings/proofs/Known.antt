@@ -1,0 +1,6 @@
+-- The known defaults, by computation.
+use mathlib.Core.Path.{refl}
+use Rattle.settings.specs.Known.{AllKnown}
+
+pub known : AllKnown
+known = record { known_defaults = (refl, refl, refl, refl) }
