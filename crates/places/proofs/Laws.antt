@@ -14,7 +14,6 @@ use Rattle.laws.proofs.Numbers.{quotient, rest}
 use Rattle.laws.proofs.Tests.{clash, cases, and_true, true_and, and_right, and_false}
 use Rattle.checks.specs.declared.Answer.TheVariants.{Taken}
 use Rattle.checks.specs.declared.Found.{Found}
-use Rattle.checks.specs.declared.Found.TheVariants as Found
 use Rattle.checks.specs.Checks.{verdict}
 use Rattle.sides.specs.Sides.{sides_taken}
 use Rattle.meaning.specs.Meaning.{is_flag}

@@ -5,7 +5,6 @@ use Rattle.checks.specs.declared.Answer.TheVariants.{Taken, Refused}
 use Rattle.checks.specs.Checks.{verdict}
 use Rattle.places.specs.declared.Place.{Place}
 use Rattle.places.specs.declared.Count.{Count}
-use Rattle.places.specs.declared.Count.TheVariants as Count
 use Rattle.places.specs.Places.{place_of, flag_at}
 use Rattle.places.specs.Checks.{count_checks}
 

@@ -7,7 +7,6 @@ use Rattle.checks.specs.declared.Found.TheVariants.{At, Nothing}
 use Rattle.checks.specs.Checks.{verdict}
 use Rattle.places.specs.declared.Place.{Place}
 use Rattle.places.specs.declared.Nearest.{Nearest}
-use Rattle.places.specs.declared.Nearest.TheVariants as Nearest
 use Rattle.places.specs.Places.{place_of, flag_at, squared_distance}
 use Rattle.places.specs.Checks.{nearest_checks}
 
