@@ -10,7 +10,7 @@ use lib.ListN.{take, drop}
 use Rattle.laws.proofs.Numbers.{quotient, rest}
 use Rattle.laws.proofs.Parts.{part_at}
 use Rattle.encoding.specs.Frame.{pixels_of, word_at}
-use Rattle.layout.specs.Requires.{row_word_lem}
+use Rattle.layout.specs.Requires.{row_word}
 
 module _ (w h row i r at to : ℕ) (sums : List ℤ) (hw : w ≡ 2 * h) (hh : w / 2 ≡ h) (hi : i < h) (ht : to ≡ row * h) (ha : at ≡ 4 * to) where
   even : 2 * row * w ≡ at
@@ -19,7 +19,7 @@ module _ (w h row i r at to : ℕ) (sums : List ℤ) (hw : w ≡ 2 * h) (hh : w 
   odd : (2 * row + 1) * w ≡ at + w
   odd = omega (arith, even, add-mul (2 * row) 1 w, one-mul w)
 
-  pub row_word_lem : row_word_lem r (take w (drop at sums)) (take w (drop (at + w) sums)) i ≡ word_at w true r sums (to + i)
+  pub row_word_lem : row_word r (take w (drop at sums)) (take w (drop (at + w) sums)) i ≡ word_at w true r sums (to + i)
   unfolding word_at pixels_of
   row_word_lem =
       rw (ht, hh, quotient h row i hi, rest h row i hi, even, odd)
