@@ -1,8 +1,12 @@
 -- The lines of a script.
-use Rattle.std.specs.Prelude.{ℕ, ◌+◌, ◌≤◌, List, length, drop}
-use Rattle.bytes.specs.Bytes.{index_of}
+use Rattle.std.specs.Prelude.{ℕ, ◌+◌, ◌≤◌, ◌==◌, List, length, drop}
+use Rattle.std.specs.List.{position_or_len}
 use Rattle.checks.specs.declared.Found.{Found}
 use Rattle.checks.specs.declared.Found.TheVariants.{At, Nothing}
+
+-- where a byte stands first, or the length of a list that doesn't hold it
+abbrev pub index_of : ℕ → List ℕ → ℕ
+index_of byte bytes = position_or_len (λ b. b == byte) bytes
 
 -- where the line that begins at a place ends: at the first line feed from there on, or else where the script ends
 abbrev pub line_end : List ℕ → ℕ → ℕ

@@ -1,18 +1,41 @@
 // A script of calls on a board: its lines, and what each of them says.
 #![tactic(auto)]
 
-ghost use Rattle.std.specs.Prelude.{◌≡◌, ◌≤◌, max, length, take};
-ghost use Rattle.script.specs.Lines.{line_end, Numbered};
+ghost use Rattle.std.specs.Prelude.{◌≡◌, ◌+◌, ◌-◌, ◌≤◌, max, length, take, drop};
+ghost use Rattle.script.specs.Lines.{index_of, line_end, Numbered};
 ghost use Rattle.commands.specs.Ranges.{InRange};
 
 use crate::numbers::numbers;
-use bytes::scan::find;
 use check::same;
 use checks::Found;
 use commands::{Command, named};
 use items::Numbers;
 
 mod numbers;
+
+// Where a byte stands first, or how many bytes there are if it stands nowhere.
+fn place_of(bytes: &[u8], byte: u8) -> usize
+    ensures place { result ≡ index_of byte bytes.now }
+    ensures bound { result ≤ length bytes.now }
+{
+    let mut i = 0;
+    while i < bytes.len() {
+        if bytes[i] == byte {
+            return i;
+        }
+        i += 1;
+    }
+    i
+}
+
+// Where a byte stands first from one place to another, or the other place if it stands nowhere there.
+fn find(bytes: &[u8], from: usize, to: usize, byte: u8) -> usize
+    requires { (from ≤ to) × (to ≤ length bytes.now) }
+    ensures place { result ≡ from + index_of byte (take (to - from) (drop from bytes.now)) }
+    ensures bounds { (from ≤ result) × (result ≤ to) }
+{
+    from + place_of(&bytes[from..to], byte)
+}
 
 // Where the word of a line ends.
 fn word_end(line: &[u8]) -> usize
