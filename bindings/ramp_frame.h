@@ -1,5 +1,5 @@
 /* A frame of a ramp board, in one call or in steps, and the flags of a frame: the nearest one, and how many lie in a box.
-   Link target/staticlib/libframe.a, which `rt staticlib frame` makes. */
+   Link target/staticlib/libframe.a, which `bindings/library` makes. */
 #ifndef RAMP_FRAME_H
 #define RAMP_FRAME_H
 

@@ -1,5 +1,5 @@
 //! A frame of a ramp board, in one call or in steps, and the flags of a frame: the nearest one, and how many lie in a box. Over the static library
-//! that `rt staticlib frame` makes.
+//! that `bindings/library` makes.
 //!
 //! `frame`, `feed` and `read_out` open a board of the given sides, update it with the record, start a ramp, and then do what they are named for.
 //! `sums` has one entry for each pixel, `words` one for each pixel or, binned, for each square. After a refusal both are as they were.
