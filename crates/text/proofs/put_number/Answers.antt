@@ -1,0 +1,11 @@
+-- The digits that are put are those of the number.
+use Rattle.std.proofs.Common.{ℕ, ◌≤◌, List, ◌++◌, take, ap, ◌∙◌}
+use Rattle.text.proofs.Decimals.{is_decimal, few}
+use Rattle.text.proofs.put_number.Goals as goal
+
+pub returns-clause-text : goal.returns-clause-text
+returns-clause-text c =
+    let d = c.decimal-count in
+    let n = c.args.n in
+    let h : d.result ≤ 20 = few n d.result d.ensures.len c.ranges.n.fits in
+    c.put.ensures.text ∙ ap (λ (l : List ℕ). take c.args.at c.args.out.now ++ l) (d.ensures.digits ∙ is_decimal n d.result d.ensures.len h)
