@@ -1,0 +1,63 @@
+-- The sum and the mark fit, and each call says its part of the definition.
+use mathlib.Core.Path.{◌≡◌, ◌∙◌}
+use mathlib.Core.Bool.{true}
+use Prim.Native.Nat.{ℕ, ◌+◌, ◌<◌, ◌≤◌}
+use native.Mathlib.Omega.{arith}
+use lib.IntN.{ℤ, pos, neg_ℤ, ◌+ℤ◌, ◌*ℤ◌}
+use lib.Signed.{le_z}
+use mir.Syntax.{w32}
+use mir.Val.{SFits, to_z, of_z}
+use mir.Facts.{to_z-of_z}
+use Rattle.laws.proofs.Tests.{and_true}
+use Rattle.laws.proofs.Ints.{sum, fits, signed, back, to_z_nat}
+use Rattle.settings.specs.Settings.{max_weight, weight_in_range}
+use Rattle.readings.specs.Readings.{reading_in_range}
+use Rattle.entries.specs.Range.{entry_in_range}
+use Rattle.entries.proofs.Range.{range}
+use Rattle.step.specs.Step.{pedestal_or_stored}
+use Rattle.step.proofs.Products.{product}
+use Rattle.step.proofs.Steps.{addend_in_range}
+use Rattle.step.proofs.accumulate.Goals as goal
+
+number : (n : ℕ) → n ≤ 9 → to_z w32 n ≡ pos n
+number n h = to_z_nat w32 n (omega arith)
+
+new_mark : (n : ℕ) → n ≤ 9 → SFits w32 (pos (1073741824 + n))
+new_mark n h = record { sfits = omega arith }
+
+weight : (w : ℤ) → weight_in_range w ≡ true → to_z w32 (of_z w32 w) ≡ w
+weight w h =
+    let t = and_true (le_z (neg_ℤ (pos max_weight)) w) (le_z w (pos max_weight)) h in
+    to_z-of_z (fits w32 w (omega signed))
+
+-- the product, and what is added to it
+fits_sum : (n : ℕ) (w : ℤ) (x : ℕ) (e : ℤ) → 1 ≤ n → weight_in_range w ≡ true → reading_in_range x ≡ true → (1 < n → entry_in_range e ≡ true)
+    → SFits w32 (w *ℤ pos x +ℤ pedestal_or_stored n e)
+fits_sum n w x e some hw hx he =
+    fits w32 _
+    (omega (
+      signed,
+      product w x hw hx,
+      range (pedestal_or_stored n e) (addend_in_range n e some he),
+      sum (w *ℤ pos x) (pedestal_or_stored n e),
+    ))
+
+pub overflow_add-sum : goal.overflow_add-sum
+overflow_add-sum c =
+    let a = c.args in
+    let r = c.requires in
+    let h : SFits w32 a.stored.now = record { sfits = omega arith } in
+    let multiplied = back w32 c.multiply-product.result c.multiply-product.type_inv ∙ rw (weight a.sample.weight r.weight_value) at c.multiply-product.ensures in
+    let added = back w32 c.pedestal_or_stored-addend.result c.pedestal_or_stored-addend.type_inv ∙ rw (to_z-of_z h) at c.pedestal_or_stored-addend.ensures in
+    rw (multiplied, added) (fits_sum a.sample.n a.sample.weight a.reading a.stored.now r.le_n.0 r.weight_value r.reading_value r.stored_value)
+
+pub returns : goal.returns
+returns c =
+    let a = c.args in
+    let r = c.requires in
+    let h : SFits w32 a.stored.now = record { sfits = omega arith } in
+    let multiplied = back w32 c.multiply-product.result c.multiply-product.type_inv ∙ rw (weight a.sample.weight r.weight_value) at c.multiply-product.ensures in
+    let added = back w32 c.pedestal_or_stored-addend.result c.pedestal_or_stored-addend.type_inv ∙ rw (to_z-of_z h) at c.pedestal_or_stored-addend.ensures in
+    let s = fits_sum a.sample.n a.sample.weight a.reading a.stored.now r.le_n.0 r.weight_value r.reading_value r.stored_value in
+    back w32 c.sum_or_mark.result c.sum_or_mark.type_inv
+    ∙ simp (multiplied, added, to_z-of_z, s, number a.sample.n r.le_n.1, new_mark a.sample.n r.le_n.1, c.is_above.ensures) at c.sum_or_mark.ensures
