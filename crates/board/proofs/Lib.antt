@@ -3,3 +3,4 @@ pub mod Soundness
 pub mod Kept
 pub mod Checked
 pub mod Laws
+pub mod Known

@@ -4,3 +4,4 @@ pub mod RampChecks
 pub mod Kept
 pub mod Open
 pub mod Laws
+pub mod Known

@@ -1,0 +1,94 @@
+-- Known answers of Open and of the checks of a running ramp, and boards that are known to be sound or not, in one table that one statement covers.
+use Rattle.std.specs.Prelude.{ℕ, Bool, true, false, List, [], ◌∷◌, ◌≡◌, pos, neg_ℤ, replicate}
+use Rattle.laws.specs.Tables.{AllHold}
+use Rattle.settings.specs.declared.Settings.{Settings}
+use Rattle.settings.specs.Settings.{defaults, with_weights, with_threshold, with_truncation, with_samples}
+use Rattle.checks.specs.declared.Answer.{Answer}
+use Rattle.checks.specs.declared.Answer.TheVariants.{Taken, Refused}
+use Rattle.checks.specs.Checks.{refusal, verdict}
+use Rattle.board.specs.declared.Board.{Board}
+use Rattle.board.specs.Board.{sound, opened}
+use Rattle.board.specs.Open.{open_of}
+use Rattle.board.specs.RampChecks.{ramp_checks}
+
+-- a board with other settings, and with another ramp: all else of it is kept
+abbrev pub with_settings : Settings → Settings → Board → Board
+with_settings waiting in_force b = record { width = b.width; height = b.height; binned = b.binned; waiting = waiting; in_force = in_force; running = b.running; fed = b.fed }
+
+abbrev pub with_ramp : Bool → ℕ → Board → Board
+with_ramp running fed b = record { width = b.width; height = b.height; binned = b.binned; waiting = b.waiting; in_force = b.in_force; running = running; fed = fed }
+
+-- sides that Open is handed, and its answer; a board, and whether it is sound; settings, and whether a board is sound that has them waiting, or in force;
+-- a board and a number of sums, and what the checks that Feed and Read out begin with say
+pub data Known : Type 0 where
+  opens : (width height : ℕ) (binned : Bool) (answer : Answer) → Known
+  board : (b : Board) (is_sound : Bool) → Known
+  settings : (s : Settings) (is_sound : Bool) → Known
+  sums : (b : Board) (count : ℕ) (answer : Answer) → Known
+
+-- a board of one pixel with the defaults: a ramp wants nine readings
+abbrev idle : Board
+idle = opened 1 1 false
+
+-- its ramp, with so many readings fed
+abbrev fed : ℕ → Board
+fed count = with_ramp true count idle
+
+-- a row follows from the definitions
+abbrev pub Holds : Known → Type 0
+Holds (opens width height binned answer) = (open_of width height binned).answer ≡ answer
+Holds (board b is_sound) = sound b ≡ is_sound
+Holds (settings s is_sound) = (sound (with_settings s defaults (fed 0)) ≡ is_sound) × (sound (with_settings defaults s (fed 0)) ≡ is_sound)
+Holds (sums b count answer) = verdict (ramp_checks b count) ≡ answer
+
+abbrev pub table : List Known
+table =
+    opens 1 1024 false Taken
+    ∷ opens 0 1 false (Refused (refusal 1))
+    ∷ opens 1 0 false (Refused (refusal 1))
+    ∷ opens 1025 1 false (Refused (refusal 1))
+    ∷ opens 1 1025 false (Refused (refusal 1))
+    ∷ opens 2 2 true Taken
+    ∷ opens 1 2 true (Refused (refusal 1))
+    ∷ opens 2 1 true (Refused (refusal 1))
+    -- at most N × M readings are fed, with the N in force, and none while no ramp runs
+    ∷ board idle true
+    ∷ board (with_ramp false 1 idle) false
+    ∷ board (fed 0) true
+    ∷ board (fed 9) true
+    ∷ board (fed 10) false
+    ∷ board (with_settings (with_samples 1 defaults) defaults (fed 9)) true
+    ∷ board (with_settings defaults (with_samples 1 defaults) (fed 2)) false
+    -- sides that Open would take
+    ∷ board (opened 0 1 false) false
+    ∷ board (opened 1 1025 false) false
+    ∷ board (opened 2 2 true) true
+    ∷ board (opened 1 2 true) false
+    ∷ board (opened 2 1 true) false
+    -- both settings within Update's ranges
+    ∷ settings (with_weights (replicate 9 (pos 15)) defaults) true
+    ∷ settings (with_weights (replicate 9 (pos 16)) defaults) false
+    ∷ settings (with_weights (replicate 9 (neg_ℤ (pos 15))) defaults) true
+    ∷ settings (with_weights (replicate 9 (neg_ℤ (pos 16))) defaults) false
+    ∷ settings (with_weights (replicate 8 (pos 0)) defaults) false
+    ∷ settings (with_threshold 16383 defaults) true
+    ∷ settings (with_threshold 16384 defaults) false
+    ∷ settings (with_truncation 0 defaults) false
+    ∷ settings (with_truncation 1 defaults) true
+    ∷ settings (with_truncation 3 defaults) true
+    ∷ settings (with_truncation 4 defaults) false
+    ∷ settings (with_samples 0 defaults) false
+    ∷ settings (with_samples 1 defaults) true
+    ∷ settings (with_samples 9 defaults) true
+    ∷ settings (with_samples 10 defaults) false
+    -- 99 before 10, 10 before 11; one sum for each pixel
+    ∷ sums (with_ramp false 1 idle) 0 (Refused (refusal 99))
+    ∷ sums idle 0 (Refused (refusal 10))
+    ∷ sums (fed 0) 0 (Refused (refusal 11))
+    ∷ sums (fed 0) 1 Taken
+    ∷ sums (fed 0) 2 (Refused (refusal 11))
+    ∷ []
+
+-- every row follows from the definitions
+abbrev pub AllKnown : Type 0
+AllKnown = AllHold Holds table
