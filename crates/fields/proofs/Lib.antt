@@ -1,2 +1,3 @@
 -- The refusals of the fields.
 pub mod Laws
+pub mod Known

@@ -2,3 +2,4 @@
 pub mod Products
 pub mod Steps
 pub mod Laws
+pub mod Known

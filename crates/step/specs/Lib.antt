@@ -1,3 +1,4 @@
 -- What one reading does to one entry.
 pub mod Step
 pub mod Laws
+pub mod Known
