@@ -1,6 +1,6 @@
 -- Keys.
 --     key_order, order_key      of two keys the lower is that of the nearer, or of the first of two
---     key_small                 a key is below `no_key_lem`
+--     key_small                 a key is below `no_key`
 --     lesser, widened           the least key of two sets of words, and of fewer words
 --     own_row, more_rows        the rows nearer than so many
 --     no_later, all_rows        and then all rows
@@ -23,7 +23,7 @@ use Rattle.places.proofs.Checked.{within}
 use Rattle.places.proofs.Flagged.{flag_below}
 use Rattle.places.proofs.Nearness.{nearest_is, nearest_none}
 use Rattle.flag_search.specs.Requires.{Searched}
-use Rattle.flag_search.specs.Keys.{key_of, no_key_lem, Least, place_of_key}
+use Rattle.flag_search.specs.Keys.{key_of, no_key, Least, place_of_key}
 use Rattle.flag_search.proofs.Distances.{square_most}
 
 module _ (a i b j : ℕ) (few : i < 1048576) (many : j < 1048576) where
@@ -53,7 +53,7 @@ module _ (words : List ℕ) (width : ℕ) (place : Place) where
       right h j (inr b) t = l.least j b t
 
   -- no key, where there is no flag
-  pub no_key_lem : {A : ℕ → Type 0} → ((j : ℕ) → A j → flag_at words j ≡ false) → Least words width place A no_key_lem
+  pub no_key_lem : {A : ℕ → Type 0} → ((j : ℕ) → A j → flag_at words j ≡ false) → Least words width place A no_key
   no_key_lem h = record { held = inl refl; least = λ j a t. clash (sym t ∙ h j a) }
 
   -- the least key of the rows nearer than `away`
@@ -93,7 +93,7 @@ module _ (words : List ℕ) (width : ℕ) (place : Place) where
     pub all_rows : {best : ℕ} → LeastWithin height best → Least words width place (λ j. j < length words) best
     all_rows k = widened (λ j t b. let w = row_column j b in omega (arith, s.row)) k
 
-    pub key_small : (j : ℕ) → j < length words → key_of width place j < no_key_lem
+    pub key_small : (j : ℕ) → j < length words → key_of width place j < no_key
     key_small j h =
         let w = row_column j h in
         let rows : apart place.row (j / width) ≤ 1023 = omega (arith, s.row, s.high) in
@@ -104,11 +104,11 @@ module _ (words : List ℕ) (width : ℕ) (place : Place) where
         → place_of_key width key ≡ placed width (nearest_at (length words) (flag_at words) (distance_from width place))
     key_place {key} k = by k.held
       where
-        by : (key ≡ no_key_lem) ⊎ ((flag_at words (key % 1048576) ≡ true) × (key ≡ key_of width place (key % 1048576)))
+        by : (key ≡ no_key) ⊎ ((flag_at words (key % 1048576) ≡ true) × (key ≡ key_of width place (key % 1048576)))
             → place_of_key width key ≡ placed width (nearest_at (length words) (flag_at words) (distance_from width place))
         by (inl e) =
             rw (
-              eq-eqb key no_key_lem e,
+              eq-eqb key no_key e,
               nearest_none (flag_at words) (distance_from width place) (length words)
                   (λ j l. cases (flag_at words j) (λ t. absurd (omega (arith, k.least j l t, key_small j l))) (λ t. t)),
             )
@@ -116,7 +116,7 @@ module _ (words : List ℕ) (width : ℕ) (place : Place) where
             let i = key % 1048576 in
             let l = flag_below words i t in
             rw (
-              ne_eqb key no_key_lem (λ q. omega (arith, key_small i l)),
+              ne_eqb key no_key (λ q. omega (arith, key_small i l)),
               nearest_is (flag_at words) (distance_from width place) (length words) i
                   (record {
                     below = l;

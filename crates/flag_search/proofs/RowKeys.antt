@@ -20,7 +20,7 @@ use Rattle.places.specs.Laws.{NotAfter}
 use Rattle.places.proofs.Flagged.{flag_below}
 use Rattle.places.proofs.Nearness.{Best, Says, nearest_says}
 use Rattle.flag_search.specs.Requires.{Searched}
-use Rattle.flag_search.specs.Keys.{Least, key_of, no_key_lem}
+use Rattle.flag_search.specs.Keys.{Least, key_of, no_key}
 use Rattle.flag_search.proofs.Distances.{square_less}
 use Rattle.flag_search.proofs.Keyed.{key_order, row_column}
 
@@ -77,5 +77,5 @@ module _ (words : List ℕ) (width height : ℕ) (place : Place) (s : Searched w
               (ordered c h (best.first c h (same_word c h ∙ t))));
         })
 
-  pub row_none : Found-is Nothing → Least words width place (λ j. j / width ≡ row) no_key_lem
-  row_none e = record { held = inl refl; least = by_column (λ j. no_key_lem ≤ key_of width place j) (λ c h t. clash (sym t ∙ sym (same_word c h) ∙ says Nothing e c h)) }
+  pub row_none : Found-is Nothing → Least words width place (λ j. j / width ≡ row) no_key
+  row_none e = record { held = inl refl; least = by_column (λ j. no_key ≤ key_of width place j) (λ c h t. clash (sym t ∙ sym (same_word c h) ∙ says Nothing e c h)) }
