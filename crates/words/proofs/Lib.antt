@@ -2,3 +2,4 @@
 pub mod Entries
 pub mod Raising
 pub mod Words
+pub mod Square
