@@ -7,7 +7,10 @@ ghost use Rattle.job.specs.Kept.{capacity};
 ghost use Rattle.report.specs.Text.{text_of};
 ghost use Rattle.report.specs.Requires.{room};
 
-use libc::{STDIN_FILENO, STDOUT_FILENO};
+// Standard input and standard output.
+const STDIN_FILENO: i32 = 0;
+
+const STDOUT_FILENO: i32 = 1;
 
 // Reads and drops a part of the input, and answers how many bytes it had.
 fn dropped() -> usize

@@ -5,12 +5,14 @@ use crate::player::{Player, Sums, Words};
 use crate::print::text;
 use checks::Found;
 use items::{COUNT, MOST, Numbers};
-use libc::STDIN_FILENO;
 use script::{first_malformed, line_end};
 
 mod player;
 mod print;
 mod show;
+
+// Standard input.
+const STDIN_FILENO: i32 = 0;
 
 // Whether the input goes on.
 fn goes_on() -> bool {
