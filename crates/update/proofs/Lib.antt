@@ -4,3 +4,4 @@ pub mod Keeps
 pub mod Changes
 pub mod Reaches
 pub mod Laws
+pub mod Known
