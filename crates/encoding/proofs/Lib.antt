@@ -3,3 +3,4 @@ pub mod Firsts
 pub mod Grid
 pub mod Meanings
 pub mod Squares
+pub mod Known

@@ -3,3 +3,4 @@ pub mod Word
 pub mod Frame
 pub mod Meanings
 pub mod Squares
+pub mod Known

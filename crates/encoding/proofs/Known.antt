@@ -1,0 +1,11 @@
+-- The known words and frames, by computation.
+use mathlib.Core.Path.{refl}
+use Rattle.laws.specs.Lists.{each, total}
+use Rattle.entries.specs.Mark.{sample_of}
+use Rattle.encoding.specs.Word.{smallest_mark, is_negative}
+use Rattle.encoding.specs.Frame.{pixels_of, word_at, frame_of}
+use Rattle.encoding.specs.Known.{AllKnown}
+
+pub known : AllKnown
+unfolding each total sample_of smallest_mark is_negative pixels_of word_at frame_of
+known = record { known_remainders = (refl, refl, refl); known_frames = (refl, refl) }
