@@ -1,2 +1,3 @@
--- The squares of a board.
+-- Entries as locals hold them, and the squares of a board.
+pub mod Held
 pub mod Squares
