@@ -1,0 +1,34 @@
+-- What the call finds in the part, said of the whole.
+use mathlib.Core.Bool.{not}
+use mathlib.Core.List.{List}
+use mathlib.Core.Path.{◌≡◌, ap, ◌∙◌}
+use Prim.Native.Nat.{ℕ, ◌+◌, ◌-◌, ◌≤◌}
+use native.Mathlib.Omega.{arith}
+use lib.IntN.{ℤ, pos}
+use lib.ListN.{length, get_or, take, drop}
+use Rattle.laws.proofs.Parts.{part_length, part_at}
+use Rattle.checks.specs.declared.Found.{Found}
+use Rattle.checks.specs.Search.{first_place, shifted}
+use Rattle.checks.proofs.Search.{found_same, found_below}
+use Rattle.entries.specs.Possible.{possible_after}
+use Rattle.written.proofs.first_between.Goals as goal
+
+told : (l : List ℤ) (start end k : ℕ) (r : Found) → start ≤ end → end ≤ length l
+    → r ≡ first_place (length (take (end - start) (drop start l))) (λ i. not (possible_after k (get_or (take (end - start) (drop start l)) i (pos 0))))
+    → r ≡ first_place (end - start) (λ i. not (possible_after k (get_or l (start + i) (pos 0))))
+told l start end k r low high e =
+    let n = end - start in
+    rw (part_length l start n (omega arith)) at e
+    ∙ found_same (λ i. not (possible_after k (get_or (take n (drop start l)) i (pos 0)))) (λ i. not (possible_after k (get_or l (start + i) (pos 0)))) n
+    (λ i h. rw (part_at l start n i (pos 0) h))
+
+pub shifted-requires : goal.shifted-requires
+shifted-requires c p e =
+    let a = c.args in
+    let t = told a.sums.now a.start a.end a.k c.first_impossible.result (omega arith) (omega arith) c.first_impossible.ensures in
+    omega (arith, found_below _ _ p (rw t at e))
+
+pub returns : goal.returns
+returns c =
+    let a = c.args in
+    c.shifted.ensures ∙ ap (shifted a.start) (told a.sums.now a.start a.end a.k c.first_impossible.result (omega arith) (omega arith) c.first_impossible.ensures)

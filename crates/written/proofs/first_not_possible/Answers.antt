@@ -1,0 +1,48 @@
+-- The search by the two intervals.
+use mathlib.Core.Bool.{Bool, not}
+use mathlib.Core.List.{List}
+use mathlib.Core.Path.{◌≡◌, sym, ap, ◌∙◌}
+use Prim.Native.Nat.{ℕ, ◌+◌, ◌-◌, ◌/◌, ◌%◌, min}
+use native.Mathlib.Nat.{sub-zero}
+use native.Mathlib.Omega.{arith}
+use lib.IntN.{ℤ, pos}
+use lib.ListN.{length, get_or}
+use Rattle.checks.specs.declared.Found.{Found}
+use Rattle.checks.specs.Search.{first_place, shifted}
+use Rattle.checks.proofs.Search.{found_start}
+use Rattle.entries.specs.Possible.{possible_after}
+use Rattle.written.proofs.Intervals.{written_found, written_first, written_none}
+use Rattle.written.proofs.first_not_possible.Goals as goal
+
+abbrev fails : List ℤ → ℕ → ℕ → Bool
+fails l k p = not (possible_after k (get_or l p (pos 0)))
+
+pub returns-then-count-eq0 : goal.returns-then-count-eq0
+returns-then-count-eq0 c =
+    let a = c.args in
+    let l = a.sums.now in
+    sym (written_none (pos 0) possible_after (length l) a.fed a.count l c.requires.0 c.if-count-eq0.true)
+
+-- the search of the first interval
+low : (l : List ℤ) (fed count end : ℕ) (r : Found) → let m = length l in let q = fed % m in end ≡ min q (q + count - m)
+    → r ≡ shifted 0 (first_place (end - 0) (λ i. fails l (fed / m + 1) (0 + i)))
+    → r ≡ first_place (min q (q + count - m)) (fails l (fed / m + 1))
+low l fed count end r e t = rw (sub-zero, e) at t ∙ found_start (fails l (fed / length l + 1)) _
+
+pub returns-then-c-eq0 : goal.returns-then-c-eq0
+returns-then-c-eq0 c =
+    let a = c.args in
+    let l = a.sums.now in
+    let q = a.fed % length l in
+    low l a.fed a.count c.least.result c.first_between-low.result (c.least.ensures ∙ ap (min q) c.beyond.ensures) c.first_between-low.ensures
+    ∙ sym (written_first (pos 0) possible_after (length l) a.fed a.count l c.requires.0 c.if-c-eq0.true)
+
+pub returns : goal.returns
+returns c =
+    let a = c.args in
+    let l = a.sums.now in
+    let q = a.fed % length l in
+    let first = low l a.fed a.count c.least.result c.first_between-low.result (c.least.ensures ∙ ap (min q) c.beyond.ensures) c.first_between-low.ensures in
+    c.or_else.ensures
+    ∙ rw (first, rw c.least-2.ensures at c.first_between.ensures)
+    (sym (written_found (pos 0) possible_after (length l) a.fed a.count l c.requires.0 (omega arith)))
