@@ -6,3 +6,4 @@ pub mod Pixel
 pub mod Agrees
 pub mod Honest
 pub mod Laws
+pub mod Known

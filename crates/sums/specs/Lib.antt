@@ -2,3 +2,4 @@
 pub mod Feed
 pub mod Exact
 pub mod Laws
+pub mod Known

@@ -1,0 +1,9 @@
+-- The known ramp, by computation.
+use mathlib.Core.Path.{refl}
+use Rattle.step.specs.Step.{step}
+use Rattle.sums.specs.Feed.{feed_one, feed_all}
+use Rattle.sums.specs.Known.{AllKnown}
+
+pub known : AllKnown
+unfolding step feed_one feed_all
+known = record { known_readings = (refl, refl, refl, refl); known_sums = λ e₀ e₁. refl }
