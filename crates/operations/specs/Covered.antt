@@ -7,7 +7,6 @@ use Rattle.checks.specs.Checks.{verdict}
 use Rattle.board.specs.declared.Board.{Board}
 use Rattle.board.specs.declared.Coverage.{Coverage}
 use Rattle.board.specs.declared.Coverage.TheVariants.{Covered, Uncovered}
-use Rattle.board.specs.declared.Coverage.TheVariants as Coverage
 use Rattle.board.specs.Board.{unsound}
 
 abbrev pub covered_checks : Board → List Answer
