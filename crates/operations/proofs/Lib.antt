@@ -5,3 +5,4 @@ pub mod Feeds
 pub mod ReadOutChecked
 pub mod Says
 pub mod Laws
+pub mod Known

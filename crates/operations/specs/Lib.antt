@@ -6,3 +6,4 @@ pub mod Feeds
 pub mod ReadOut
 pub mod Covered
 pub mod Laws
+pub mod Known
