@@ -1,0 +1,23 @@
+use mathlib.Core.Path.{◌∙◌}
+use borrow.Author.Tests.{le-leb}
+use mir.Syntax.{w32}
+use Rattle.laws.proofs.Ints.{back}
+use Rattle.settings.specs.Settings.{max_threshold}
+use Rattle.settings.proofs.Parts.{in_range_parts}
+use Rattle.step.specs.Step.{step}
+use Rattle.step.proofs.Steps.{weight_in_range_lem}
+use Rattle.ramp.proofs.feed_sample.Goals as goal
+
+pub feed_part-requires-clause-weight_value : goal.feed_part-requires-clause-weight_value
+feed_part-requires-clause-weight_value c =
+    let s = c.args.settings in
+    rw (back w32 c.weight-weight.result c.weight-weight.type_inv ∙ c.weight-weight.ensures) (weight_in_range_lem s (in_range_parts s c.requires.settings_value) c.args.n)
+
+pub feed_part-requires-clause-threshold_value : goal.feed_part-requires-clause-threshold_value
+feed_part-requires-clause-threshold_value c =
+    let s = c.args.settings in
+    le-leb s.threshold max_threshold (in_range_parts s c.requires.settings_value).threshold
+
+pub returns : goal.returns
+unfolding step
+returns c = rw (back w32 c.weight-weight.result c.weight-weight.type_inv ∙ c.weight-weight.ensures) at c.feed_part.ensures
