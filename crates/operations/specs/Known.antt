@@ -10,7 +10,6 @@ use Rattle.entries.specs.Mark.{mark}
 use Rattle.board.specs.declared.Board.{Board}
 use Rattle.board.specs.declared.Coverage.{Coverage}
 use Rattle.board.specs.declared.Coverage.TheVariants.{Covered, Uncovered}
-use Rattle.board.specs.declared.Coverage.TheVariants as Coverage
 use Rattle.board.specs.Board.{opened}
 use Rattle.board.specs.Known.{with_settings, with_ramp}
 use Rattle.operations.specs.Update.{update_of}
