@@ -9,7 +9,6 @@ use Rattle.checks.specs.Checks.{verdict, by_answer}
 use Rattle.board.specs.declared.Board.{Board}
 use Rattle.board.specs.declared.Outcome.{Outcome}
 use Rattle.board.specs.declared.Coverage.{Coverage}
-use Rattle.board.specs.declared.Coverage.TheVariants as Coverage
 use Rattle.operations.specs.Update.{update_checks, update_of}
 use Rattle.operations.specs.Ramp.{start_checks, start_of, drop_checks, drop_of}
 use Rattle.operations.specs.Feed.{feed_checks, feed_of, fed_sums}
