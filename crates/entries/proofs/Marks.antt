@@ -1,5 +1,4 @@
 -- The laws of marks.
---     over                       the code's test
 --     is_marked, sample_is       a mark, and its sample
 --     sample_none                an entry that isn't marked has no sample
 --     by_mark                    an entry is a mark, or isn't marked
@@ -11,13 +10,8 @@ use native.Mathlib.Omega.{arith}
 use borrow.Author.Tests.{le-leb, leb-true}
 use lib.Dec.{leb}
 use lib.IntN.{ℤ, pos, negsuc}
-use lib.Signed.{lt_z}
 use Rattle.laws.proofs.Tests.{cases}
 use Rattle.entries.specs.Mark.{mark, marked, sample_of}
-
-pub over : (e : ℤ) → lt_z (pos 1073741824) e ≡ marked e
-over (pos e) = refl
-over (negsuc e) = refl
 
 pub is_marked : (n : ℕ) → 1 ≤ n → marked (mark n) ≡ true
 is_marked n h = le-leb 1073741825 (1073741824 + n) (omega arith)

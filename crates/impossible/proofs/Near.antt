@@ -1,10 +1,8 @@
 -- Entries that are surely possible.
---     moved_fits           a moved entry fits 32 bits
 --     Bound, bound_more    its bits are among those of all, for each entry before i; and for one more
 --     together             the bits of four more
 --     bound_near           at the end: where the bits of all are near, each entry is
 --     every_possible       and what is near is possible, where the nearness is within the bounds of a sum
---     asked                what the code asks of the nearness of k samples
 --     quarters_possible    four parts that are near, and the rest that is possible
 use Prim.Native.Nat.{ℕ, suc, ◌+◌, ◌-◌, ◌*◌, ◌<◌, ◌≤◌}
 use mathlib.Core.Bool.{Bool, true, false, ◌&&◌}
@@ -26,10 +24,10 @@ use Rattle.laws.proofs.Bits.{or_above}
 use Rattle.laws.proofs.Every.{every_at, every_all}
 use Rattle.laws.proofs.Quarters.{Four, quarters}
 use Rattle.laws.proofs.Tests.{clash, cases, and_true, true_and}
-use Rattle.laws.proofs.Ints.{up, dn, sum, neg_up, neg_dn, is_le, is_lt, lt_true, fits, fitted, signed}
+use Rattle.laws.proofs.Ints.{up, dn, sum, neg_up, neg_dn, is_le, is_lt, lt_true, fitted, signed}
 use Rattle.entries.specs.Mark.{mark, marked}
 use Rattle.entries.specs.Possible.{max_product, possible_after}
-use Rattle.impossible.specs.Near.{moved, is_near, Fitting, nearness}
+use Rattle.impossible.specs.Near.{moved, is_near, nearness}
 use Rattle.entries.proofs.Possible.{is_fair}
 
 -- the bits of four more
@@ -44,12 +42,6 @@ module _ (gap near : ℤ) where
   -- the parts of a moved entry
   lower : (e : ℤ) → up (e -ℤ gap) + (dn e + up gap) ≡ dn (e -ℤ gap) + (up e + dn gap)
   lower e = omega (arith, sum e (neg_ℤ gap), neg_up gap, neg_dn gap)
-
-  pub moved_fits : Fitting gap near → (e : ℤ) → SFits w32 e → SFits w32 (moved gap near e)
-  moved_fits h e f =
-      cases (marked e)
-      (λ t. rw t (fits w32 _ (omega (signed, fitted w32 e f, lower e, sum (e -ℤ gap) near))))
-      (λ t. rw t (fits w32 _ (omega (signed, fitted w32 e f, sum e near))))
 
   abbrev pub Bound : List ℤ → ℕ → ℕ → Type 0
   Bound l i bits = (j : ℕ) → j < i → let z = moved gap near (get_or l j (pos 0)) in SFits w32 z × (of_z w32 z ≤ bits)
@@ -111,13 +103,6 @@ module _ (k h : ℕ) (few : k ≤ 9) (l : h + 128 ≤ k * max_product) where
 -- the nearness of k samples is within the bounds
 nearness_possible : (k : ℕ) → 1 ≤ k → nearness k + 128 ≤ k * max_product
 nearness_possible k h = cases (ltb k 5) (λ t. rw t (omega arith)) (λ t. rw t (omega (arith, ltb-false k 5 t)))
-
-nearness_bounds : (k : ℕ) → (131072 ≤ nearness k) × (nearness k ≤ 1048576)
-nearness_bounds k = cases (ltb k 5) (λ t. rw t (omega arith)) (λ t. rw t (omega arith))
-
--- what the code asks of the nearness, and of the gap beside it
-pub asked : (k : ℕ) → k ≤ 9 → let near = pos (nearness k) in Fitting (mark (k + 1) -ℤ near) near
-asked k few = omega (signed, nearness_bounds k, gap_parts k (nearness k))
 
 -- what was found of four parts that are near, and of what is left over
 pub quarters_possible : (k n : ℕ) (l : List ℤ) → 1 ≤ k → k ≤ 9

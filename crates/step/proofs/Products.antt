@@ -1,18 +1,15 @@
 -- weight × reading, by the sign and the magnitude of the weight.
 --     magnitude_le          the bound of a magnitude
---     flipped, kept         a negative weight and its magnitude; and any other
 --     size_le               the bound of magnitude × reading
---     by_sign               the product: magnitude × reading with the sign of the weight
 --     product               the bound of the product
 use Prim.Native.Nat.{ℕ, suc, ◌*◌, ◌≤◌, zero-le}
-use mathlib.Core.Bool.{true, false, cond}
-use mathlib.Core.Path.{◌≡◌, refl, ap}
+use mathlib.Core.Bool.{true}
+use mathlib.Core.Path.{◌≡◌}
 use native.Mathlib.Nat.{mul-le-mul}
-use native.Mathlib.Omega.{arith}
-use borrow.Author.Tests.{leb-true, ltb-true, le-ltb}
-use lib.IntN.{ℤ, pos, negsuc, neg_ℤ, nat_abs, ◌-ℤ◌, ◌*ℤ◌}
-use lib.Signed.{le_z, lt_z}
-use Rattle.laws.proofs.Tests.{clash, and_true}
+use borrow.Author.Tests.{leb-true}
+use lib.IntN.{ℤ, pos, negsuc, neg_ℤ, nat_abs, ◌*ℤ◌}
+use lib.Signed.{le_z}
+use Rattle.laws.proofs.Tests.{and_true}
 use Rattle.laws.proofs.Ints.{up, dn, neg_up, neg_dn, signed}
 use Rattle.settings.specs.Settings.{weight_in_range}
 use Rattle.readings.specs.Readings.{max_reading, reading_in_range}
@@ -23,18 +20,6 @@ magnitude_le (pos a) p = leb-true a 15 p
 magnitude_le (negsuc a) p =
     let h = and_true (le_z (neg_ℤ (pos 15)) (negsuc a)) (le_z (negsuc a) (pos 15)) p in
     omega signed
-
-pub flipped : (w : ℤ) → lt_z w (pos 0) ≡ true → pos 0 -ℤ w ≡ pos (nat_abs w)
-flipped (pos a) t = absurd (omega (arith, ltb-true a 0 t))
-flipped (negsuc a) t = ap pos (omega arith)
-
-pub kept : (w : ℤ) → lt_z w (pos 0) ≡ false → w ≡ pos (nat_abs w)
-kept (pos a) t = refl
-kept (negsuc a) t = clash t
-
-pub by_sign : (w : ℤ) (x : ℕ) → cond (lt_z w (pos 0)) (neg_ℤ (pos (nat_abs w * x))) (pos (nat_abs w * x)) ≡ w *ℤ pos x
-by_sign (pos a) x = rw (le-ltb a 0 zero-le)
-by_sign (negsuc a) x = refl
 
 pub size_le : (w : ℤ) (x : ℕ) → weight_in_range w ≡ true → reading_in_range x ≡ true → nat_abs w * x ≤ max_product
 size_le w x p q = mul-le-mul (magnitude_le w p) (leb-true x max_reading q)
