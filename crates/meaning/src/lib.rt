@@ -18,6 +18,7 @@ pub enum WordRead {
 }
 
 // What a word means with an r from 1 to 3.
+#[tactic(auto, unfolding(crate::specs::Meaning::meaning))]
 fn meaning_of(word: u16, truncation: u16) -> WordRead
     requires { truncation ≤ 3 }
     ensures { result ≡ meaning truncation word }
@@ -44,6 +45,7 @@ fn meaning_of(word: u16, truncation: u16) -> WordRead
 }
 
 // Read a word: the limits or the flag that it means, or refusal 7.
+#[tactic(auto, unfolding(crate::specs::Meaning::read_word))]
 pub fn read_word(word: u16, truncation: u16) -> WordRead
     ensures { result ≡ read_word truncation word }
 {
@@ -58,6 +60,7 @@ pub fn read_word(word: u16, truncation: u16) -> WordRead
 }
 
 // Whether a word means saturated or negative.
+#[tactic(auto, unfolding(crate::specs::Meaning::is_flag))]
 pub fn is_flag(word: u16) -> bool
     ensures { result ≡ is_flag word }
 {
