@@ -2,21 +2,21 @@
 --     key_order, order_key      of two keys the lower is that of the nearer, or of the first of two
 --     key_small                 a key is below `no_key`
 --     lesser, widened           the least key of two sets of words, and of fewer words
---     own_row, more_rows        the rows nearer than so many
---     no_later, all_rows        and then all rows
+--     more_rows                 the rows nearer than so many, and one more on either side
+--     row_column                the row and the column of a word
 --     key_place                 the place of the least key of all words is that of the nearest flag
 use Prim.Native.Nat.{ℕ, ◌+◌, ◌*◌, ◌/◌, ◌%◌, ◌≤◌, ◌<◌, min}
-use mathlib.Core.Bool.{true, false}
+use mathlib.Core.Bool.{true}
 use mathlib.Core.List.{List}
 use mathlib.Core.Logic.{◌⊎◌, inl, inr}
-use mathlib.Core.Path.{◌≡◌, refl, sym, ◌∙◌}
+use mathlib.Core.Path.{◌≡◌}
 use native.Mathlib.Omega.{arith}
 use borrow.Author.Tests.{ltb-true, ltb-false, leb-true, leb-false, eq-eqb, ne_eqb}
 use lib.Dec.{ltb, leb}
 use lib.ListN.{length}
-use Rattle.laws.proofs.Tests.{clash, cases}
+use Rattle.laws.proofs.Tests.{cases}
 use Rattle.places.specs.declared.Place.{Place}
-use Rattle.places.specs.Places.{flag_at, apart, square}
+use Rattle.places.specs.Places.{flag_at, apart}
 use Rattle.places.specs.Finding.{nearest_at, distance_from, placed}
 use Rattle.places.specs.Laws.{NotAfter}
 use Rattle.places.proofs.Checked.{within}
@@ -52,16 +52,9 @@ module _ (words : List ℕ) (width : ℕ) (place : Place) where
       right h j (inl a) t = omega (arith, k.least j a t)
       right h j (inr b) t = l.least j b t
 
-  -- no key, where there is no flag
-  pub no_key_lem : {A : ℕ → Type 0} → ((j : ℕ) → A j → flag_at words j ≡ false) → Least words width place A no_key
-  no_key_lem h = record { held = inl refl; least = λ j a t. clash (sym t ∙ h j a) }
-
   -- the least key of the rows nearer than `away`
   abbrev pub LeastWithin : ℕ → ℕ → Type 0
   LeastWithin away key = Least words width place (λ j. apart place.row (j / width) < away) key
-
-  pub own_row : {key : ℕ} → Least words width place (λ j. j / width ≡ place.row) key → LeastWithin 1 key
-  own_row k = widened (λ j t b. omega arith) k
 
   pub more_rows : (away : ℕ) {best above below : ℕ} → LeastWithin away best
       → Least words width place (λ j. j / width + away ≡ place.row) above → Least words width place (λ j. j / width ≡ place.row + away) below
@@ -75,23 +68,10 @@ module _ (words : List ℕ) (width : ℕ) (place : Place) where
           (λ e. let l = ltb-false (apart place.row row) away e in
           inr (cases (leb row place.row) (λ q. inl (omega (arith, leb-true row place.row q))) (λ q. inr (omega (arith, leb-false row place.row q)))))
 
-  pub no_later : (away best : ℕ) → best < square away * 1048576 → LeastWithin away best → Least words width place (λ j. j < length words) best
-  no_later away best l k =
-      record {
-        held = k.held;
-        least = λ j b t.
-            cases (ltb (apart place.row (j / width)) away)
-            (λ e. k.least j (ltb-true _ _ e) t)
-            (λ e. let h : square away ≤ square (apart place.row (j / width)) = square_most (ltb-false (apart place.row (j / width)) away e) in omega arith);
-      }
-
   module _ (height : ℕ) (s : Searched words width height place) where
     -- the row and the column of a word
     pub row_column : (j : ℕ) → j < length words → (j / width < height) × (j % width < width)
     row_column = within words width height s.whole (omega (arith, s.column))
-
-    pub all_rows : {best : ℕ} → LeastWithin height best → Least words width place (λ j. j < length words) best
-    all_rows k = widened (λ j t b. let w = row_column j b in omega (arith, s.row)) k
 
     pub key_small : (j : ℕ) → j < length words → key_of width place j < no_key
     key_small j h =
