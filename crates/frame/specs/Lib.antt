@@ -1,2 +1,3 @@
 -- The answers about flags, as plain numbers.
 pub mod FlagAnswers
+pub mod Known

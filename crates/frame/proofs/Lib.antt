@@ -1,0 +1,2 @@
+-- The known answers.
+pub mod Known
