@@ -45,9 +45,9 @@ hands bytes w h b size from start fed count decoded width height flag len small 
     let begins : start ≡ min (6 + record_length bytes) (length bytes) = start_is ∙ rw len in
     let pixels : w * h ≤ max_pixels = rw (width, height) few in
     let parts : decoded ≡ first_readings bytes =
-        decoded_is
-        ∙ ap (λ (n : ℕ). take n (pairs (take (start + 2 * fed - start) (drop start bytes)))) fed_zeros
-        ∙ readings_part bytes start fed begins fed_is in
+    decoded_is
+    ∙ ap (λ (n : ℕ). take n (pairs (take (start + 2 * fed - start) (drop start bytes)))) fed_zeros
+    ∙ readings_part bytes start fed begins fed_is in
     record {
       width = width;
       height = height;
@@ -70,7 +70,7 @@ pub returns-in-Taken : goal.returns-in-Taken
 returns-in-Taken c total t =
     let bytes = c.args.input.now in
     let e = hands bytes c.pair-width.result c.pair-height.result c.byte-binned.result c.byte.result c.least-from.result c.least-start.result c.least-fed.result c.word_count-count.result c.decode.new.readings
-        c.pair-width.ensures c.pair-height.ensures c.byte-binned.ensures c.byte.ensures c.byte.type_inv c.least-from.ensures c.least-start.ensures c.least-fed.ensures c.word_count-count.ensures c.requires c.decode.auto.readings c.decode.ensures in
+    c.pair-width.ensures c.pair-height.ensures c.byte-binned.ensures c.byte.ensures c.byte.type_inv c.least-from.ensures c.least-start.ensures c.least-fed.ensures c.word_count-count.ensures c.requires c.decode.auto.readings c.decode.ensures in
     let few : c.word_count-count.result ≤ max_pixels = rw c.word_count-count.ensures (few_words (eqb c.byte-binned.result 1) _ (rw (c.pair-width.ensures, c.pair-height.ensures) c.requires)) in
     carried bytes total _ _ _ _ _ _
     (job_answer_is total c.frame_of-answer.result e t c.frame_of-answer.ensures.answer)
@@ -84,6 +84,6 @@ pub returns-in-Refused : goal.returns-in-Refused
 returns-in-Refused c total t =
     let bytes = c.args.input.now in
     let e = hands bytes c.pair-width.result c.pair-height.result c.byte-binned.result c.byte.result c.least-from.result c.least-start.result c.least-fed.result c.word_count-count.result c.decode.new.readings
-        c.pair-width.ensures c.pair-height.ensures c.byte-binned.ensures c.byte.ensures c.byte.type_inv c.least-from.ensures c.least-start.ensures c.least-fed.ensures c.word_count-count.ensures c.requires c.decode.auto.readings c.decode.ensures in
+    c.pair-width.ensures c.pair-height.ensures c.byte-binned.ensures c.byte.ensures c.byte.type_inv c.least-from.ensures c.least-start.ensures c.least-fed.ensures c.word_count-count.ensures c.requires c.decode.auto.readings c.decode.ensures in
     let is = c.in-Refused.is in
     rw (c.refused.ensures, is) (turned_down bytes total _ (sym (job_answer_is total c.frame_of-answer.result e t c.frame_of-answer.ensures.answer) ∙ is))
