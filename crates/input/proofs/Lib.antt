@@ -1,2 +1,3 @@
 -- What the checks of an input come to.
 pub mod Checking
+pub mod Known

@@ -1,0 +1,73 @@
+-- Inputs with known answers and known parts, in one table that one statement covers. The bytes are hexadecimal.
+use Rattle.std.specs.Prelude.{ℕ, Bool, true, false, List, [], ◌∷◌, ◌≡◌}
+use Rattle.checks.specs.declared.Answer.{Answer}
+use Rattle.checks.specs.declared.Answer.TheVariants.{Taken, Refused}
+use Rattle.checks.specs.Checks.{refusal, verdict}
+use Rattle.input.specs.Input.{width_of, height_of, is_binned, record_of, readings_of}
+use Rattle.input.specs.Checks.{input_checks}
+
+-- Of an input with so many bytes in all: its first bytes, and what its checks answer. Of a whole input: its parts.
+pub data Known : Type 0 where
+  checked : (first : List ℕ) (total : ℕ) (answer : Answer) → Known
+  parts : (bytes : List ℕ) (width height : ℕ) (binned : Bool) (update readings : List ℕ) → Known
+
+-- a row follows from the definitions
+abbrev pub Holds : Known → Type 0
+Holds (checked first total answer) = verdict (input_checks first total) ≡ answer
+Holds (parts bytes width height binned update readings) =
+    (width_of bytes ≡ width)
+    × (height_of bytes ≡ height)
+    × (is_binned bytes ≡ binned)
+    × (record_of bytes ≡ update)
+    × (readings_of bytes ≡ readings)
+
+abbrev pub AllHold : List Known → Type 0
+AllHold [] = Unit {0}
+AllHold (row ∷ rows) = Holds row × AllHold rows
+
+abbrev pub table : List Known
+table =
+    -- six bytes are enough, five are not
+    checked (0x01 ∷ 0x00 ∷ 0x01 ∷ 0x00 ∷ 0x00 ∷ 0x00 ∷ []) 6 Taken
+    ∷ checked (0x01 ∷ 0x00 ∷ 0x01 ∷ 0x00 ∷ 0x00 ∷ []) 5 (Refused (refusal 17))
+    ∷ checked [] 0 (Refused (refusal 17))
+    -- binned is 0 or 1
+    ∷ checked (0x02 ∷ 0x00 ∷ 0x02 ∷ 0x00 ∷ 0x01 ∷ 0x00 ∷ []) 6 Taken
+    ∷ checked (0x02 ∷ 0x00 ∷ 0x02 ∷ 0x00 ∷ 0x02 ∷ 0x00 ∷ []) 6 (Refused (refusal 17))
+    -- a record of 2 bytes ends with the input, or runs past its end
+    ∷ checked (0x01 ∷ 0x00 ∷ 0x01 ∷ 0x00 ∷ 0x00 ∷ 0x02 ∷ []) 8 Taken
+    ∷ checked (0x01 ∷ 0x00 ∷ 0x01 ∷ 0x00 ∷ 0x00 ∷ 0x02 ∷ []) 6 (Refused (refusal 17))
+    -- 2 bytes, 1 byte and 3 bytes after a record of 2, and of 1
+    ∷ checked (0x01 ∷ 0x00 ∷ 0x01 ∷ 0x00 ∷ 0x00 ∷ 0x02 ∷ []) 10 Taken
+    ∷ checked (0x01 ∷ 0x00 ∷ 0x01 ∷ 0x00 ∷ 0x00 ∷ 0x02 ∷ []) 9 (Refused (refusal 17))
+    ∷ checked (0x01 ∷ 0x00 ∷ 0x01 ∷ 0x00 ∷ 0x00 ∷ 0x02 ∷ []) 11 (Refused (refusal 17))
+    ∷ checked (0x01 ∷ 0x00 ∷ 0x01 ∷ 0x00 ∷ 0x00 ∷ 0x01 ∷ []) 9 Taken
+    ∷ checked (0x01 ∷ 0x00 ∷ 0x01 ∷ 0x00 ∷ 0x00 ∷ 0x01 ∷ []) 8 (Refused (refusal 17))
+    ∷ checked (0x01 ∷ 0x00 ∷ 0x01 ∷ 0x00 ∷ 0x00 ∷ 0x01 ∷ []) 10 (Refused (refusal 17))
+    -- each 17 comes before 1: the sides are 0
+    ∷ checked (0x00 ∷ 0x00 ∷ 0x00 ∷ 0x00 ∷ 0x00 ∷ []) 5 (Refused (refusal 17))
+    ∷ checked (0x00 ∷ 0x00 ∷ 0x00 ∷ 0x00 ∷ 0x02 ∷ 0x00 ∷ []) 6 (Refused (refusal 17))
+    ∷ checked (0x00 ∷ 0x00 ∷ 0x00 ∷ 0x00 ∷ 0x00 ∷ 0x02 ∷ []) 6 (Refused (refusal 17))
+    ∷ checked (0x00 ∷ 0x00 ∷ 0x00 ∷ 0x00 ∷ 0x00 ∷ 0x00 ∷ []) 7 (Refused (refusal 17))
+    -- a side of 0, a side of 1,025, and an odd side of a binned board
+    ∷ checked (0x00 ∷ 0x00 ∷ 0x01 ∷ 0x00 ∷ 0x00 ∷ 0x00 ∷ []) 6 (Refused (refusal 1))
+    ∷ checked (0x01 ∷ 0x00 ∷ 0x00 ∷ 0x00 ∷ 0x00 ∷ 0x00 ∷ []) 6 (Refused (refusal 1))
+    ∷ checked (0x01 ∷ 0x04 ∷ 0x01 ∷ 0x00 ∷ 0x00 ∷ 0x00 ∷ []) 6 (Refused (refusal 1))
+    ∷ checked (0x01 ∷ 0x00 ∷ 0x01 ∷ 0x04 ∷ 0x00 ∷ 0x00 ∷ []) 6 (Refused (refusal 1))
+    ∷ checked (0x03 ∷ 0x00 ∷ 0x02 ∷ 0x00 ∷ 0x01 ∷ 0x00 ∷ []) 6 (Refused (refusal 1))
+    ∷ checked (0x02 ∷ 0x00 ∷ 0x03 ∷ 0x00 ∷ 0x01 ∷ 0x00 ∷ []) 6 (Refused (refusal 1))
+    -- 1,024 × 1 and 32 × 32 pixels; 1,025 × 1,024, where 1 comes before 18; 25 × 41 pixels, one too many
+    ∷ checked (0x00 ∷ 0x04 ∷ 0x01 ∷ 0x00 ∷ 0x00 ∷ 0x00 ∷ []) 6 Taken
+    ∷ checked (0x20 ∷ 0x00 ∷ 0x20 ∷ 0x00 ∷ 0x00 ∷ 0x00 ∷ []) 6 Taken
+    ∷ checked (0x01 ∷ 0x04 ∷ 0x00 ∷ 0x04 ∷ 0x00 ∷ 0x00 ∷ []) 6 (Refused (refusal 1))
+    ∷ checked (0x19 ∷ 0x00 ∷ 0x29 ∷ 0x00 ∷ 0x00 ∷ 0x00 ∷ []) 6 (Refused (refusal 18))
+    -- two pixels with a record of four bytes and two readings; and a binned input of 2 × 772 pixels with a record of one byte and one reading
+    ∷ parts
+    (0x02 ∷ 0x00 ∷ 0x01 ∷ 0x00 ∷ 0x00 ∷ 0x04 ∷ 0x01 ∷ 0x08 ∷ 0x01 ∷ 0x01 ∷ 0x00 ∷ 0x00 ∷ 0xFF ∷ 0x3F ∷ [])
+    2 1 false (0x01 ∷ 0x08 ∷ 0x01 ∷ 0x01 ∷ []) (0 ∷ 16383 ∷ [])
+    ∷ parts (0x02 ∷ 0x00 ∷ 0x04 ∷ 0x03 ∷ 0x01 ∷ 0x01 ∷ 0x07 ∷ 0x05 ∷ 0x01 ∷ []) 2 772 true (0x07 ∷ []) (261 ∷ [])
+    ∷ []
+
+-- every row follows from the definitions
+abbrev pub AllKnown : Type 0
+AllKnown = AllHold table
