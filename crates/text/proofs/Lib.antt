@@ -3,3 +3,4 @@ pub mod Appended
 pub mod Decimals
 pub mod Limits
 pub mod Laws
+pub mod Known
