@@ -1,7 +1,7 @@
 -- Two numbers of 32 bits add up within 64, and each end fits 32.
 use mathlib.Core.Path.{◌≡◌}
 use mathlib.Core.Bool.{true, false}
-use lib.IntN.{ℤ, pos, neg_ℤ, ◌+ℤ◌, ◌-ℤ◌}
+use lib.IntN.{ℤ, pos, neg_ℤ, ◌+ℤ◌}
 use lib.Signed.{le_z}
 use mir.Syntax.{w32, w64}
 use mir.Val.{SFits, to_z, of_z}
