@@ -16,28 +16,28 @@ use Rattle.board.specs.Laws.{BoardLaws}
 use Rattle.board.proofs.Soundness.{sound_whole}
 
 module _ (w h : ℕ) (binned : Bool) where
-  open_sound : (t : Bool) → sides_taken w h binned ≡ t → sound (by_answer (when (not t) 1) (opened w h binned) (opened 0 0 false)) ≡ t
+  open_sound : (n : ℕ) (t : Bool) → sides_taken w h binned ≡ t → sound (by_answer (when (not t) n) (opened w h binned) (opened 0 0 false)) ≡ t
   unfolding sound sides_taken
-  open_sound true e =
+  open_sound n true e =
       let d = in_range_parts _ (SettingsLaws.laws).defaults_in_range in
       sound_whole (opened w h binned) (record { sides = e; waiting = d; in_force = d; fed = omega arith; idle = refl })
-  open_sound false e = refl
+  open_sound n false e = refl
 
   open_is : sound (open_of w h binned).board ≡ sides_taken w h binned
   unfolding open_of verdict
-  open_is = rw (first_taken (when (not (sides_taken w h binned)) 1)) (open_sound (sides_taken w h binned) refl)
+  open_is = rw (first_taken) (open_sound _ (sides_taken w h binned) refl)
 
   opened_sound : (open_of w h binned).answer ≡ Taken → sound (open_of w h binned).board ≡ true
   unfolding open_of verdict
-  opened_sound e = open_is ∙ not-false _ (when_taken _ 1 (both_taken (when (not (sides_taken w h binned)) 1) Taken e).0)
+  opened_sound e = open_is ∙ not-false _ (when_taken _ _ (both_taken (when (not (sides_taken w h binned)) _) Taken e).0)
 
   refused_unsound : (r : Refusal) → (open_of w h binned).answer ≡ Refused r → sound (open_of w h binned).board ≡ false
   unfolding open_of verdict
-  refused_unsound r e = open_is ∙ by (sides_taken w h binned) (sym (first_taken (when (not (sides_taken w h binned)) 1)) ∙ e)
+  refused_unsound r e = open_is ∙ by _ (sides_taken w h binned) (sym (first_taken (when (not (sides_taken w h binned)) _)) ∙ e)
     where
-      by : (t : Bool) → when (not t) 1 ≡ Refused r → t ≡ false
-      by true q = let z : ◌≡◌ {A = ℕ} 0 1 = cc in absurd (omega arith)
-      by false q = refl
+      by : (n : ℕ) (t : Bool) → when (not t) n ≡ Refused r → t ≡ false
+      by n true q = let z : ◌≡◌ {A = ℕ} 0 1 = cc in absurd (omega arith)
+      by n false q = refl
 
 pub laws : BoardLaws
 unfolding open_of verdict

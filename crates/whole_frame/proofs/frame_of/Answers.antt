@@ -1,9 +1,11 @@
 -- `whole_frame::frame_of` meets its contract.
-use mathlib.Core.Path.{◌≡◌, sym, ◌∙◌}
+use mathlib.Core.Path.{◌≡◌, refl, sym, ◌∙◌}
 use Rattle.checks.specs.declared.Answer.TheVariants.{Taken}
-use Rattle.checks.specs.Checks.{first}
+use Rattle.checks.specs.Checks.{first, by_answer}
 use Rattle.checks.proofs.Laws.{both_taken}
 use Rattle.whole_frame.specs.Chain.{fed, read_out, frame_answer, frame_sums, frame_words}
+use Rattle.operations.specs.Feed.{fed_sums}
+use Rattle.begin.specs.Begun.{started}
 use Rattle.begin.proofs.Beginning.{started_unfed}
 use Rattle.whole_frame.proofs.Whole.{frame_is, frame_feedable, frame_readable, sums_are, words_are}
 use Rattle.whole_frame.proofs.frame_of.Goals as goal
@@ -35,11 +37,14 @@ unfolding frame_sums
 returns-in-Taken-clause-sums c =
     let a = c.args in
     let b = c.begin-begun.result in
-    let e : c.then-answer.result ≡ frame_answer a.width a.height a.binned a.«record».now a.readings.now a.sums.now a.words.now =
-    rw (frame_is, c.then-answer.ensures, c.check.ensures, c.begin-begun.ensures) in
+    let left = fed_sums (started a.width a.height a.binned a.«record».now).board a.readings.now a.sums.now in
+    let t : frame_answer a.width a.height a.binned a.«record».now a.readings.now a.sums.now a.words.now ≡ Taken =
+    sym (rw (frame_is, c.then-answer.ensures, c.check.ensures, c.begin-begun.ensures)) ∙ c.in-Taken.is in
     let passed : first (fed b.board a.readings.now a.sums.now).answer (read_out b.board a.readings.now a.sums.now a.words.now).answer ≡ Taken =
     rw (← c.check.ensures) (both_taken b.answer _ (sym c.then-answer.ensures ∙ c.in-Taken.is)).1 in
-    rw (sym e ∙ c.in-Taken.is) (rw (c.feed.ensures, ← sums_are _ _ _ _ passed, c.begin-begun.ensures))
+    let new : c.feed.new.sums ≡ left = rw (c.feed.ensures, ← sums_are _ _ _ _ passed, c.begin-begun.ensures) in
+    let whole : by_answer Taken left a.sums.now ≡ left = refl in
+    cc (t, new, whole)
 
 pub returns-in-Taken-clause-words : goal.returns-in-Taken-clause-words
 unfolding frame_words
