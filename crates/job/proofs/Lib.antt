@@ -2,3 +2,4 @@
 pub mod Parts
 pub mod Jobs
 pub mod Laws
+pub mod Known

@@ -2,3 +2,4 @@
 pub mod Job
 pub mod Kept
 pub mod Laws
+pub mod Known

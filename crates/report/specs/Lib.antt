@@ -2,3 +2,4 @@
 pub mod Text
 pub mod Requires
 pub mod Laws
+pub mod Known

@@ -1,9 +1,10 @@
 -- The table of known text, row by row, by computation.
-use mathlib.Core.Path.{refl}
+use mathlib.Core.List.{[], ◌∷◌}
+use mathlib.Core.Path.{◌≡◌, refl}
 use native.Mathlib.Omega.{arith}
 use Rattle.laws.proofs.Tables.{◌then◌}
 use Rattle.meaning.specs.Meaning.{meaning, read_word}
-use Rattle.text.specs.Text.{digit_count, decimal}
+use Rattle.text.specs.Text.{digit_count, decimal, meaning_text}
 use Rattle.text.specs.Known.{AllKnown}
 use Rattle.text.proofs.Limits.{whole_is}
 
@@ -19,3 +20,8 @@ known =
     then refl then refl then refl then refl
     then refl then refl
     then tt
+
+-- with r = 3: `sat 1`, `neg`
+pub known_codes : (meaning_text (read_word 3 32753) ≡ 115 ∷ 97 ∷ 116 ∷ 32 ∷ 49 ∷ []) × (meaning_text (read_word 3 32767) ≡ 110 ∷ 101 ∷ 103 ∷ [])
+unfolding meaning read_word decimal digit_count
+known_codes = (refl, refl)
