@@ -1,11 +1,10 @@
 -- A buffer of 4,096 places that is filled one place after the other.
---     filled_more, filled_all     with one place more, and at the end
+--     filled_more     with one place more
 use Prim.Native.Nat.{ℕ, ◌+◌, ◌≤◌, ◌<◌}
 use mathlib.Core.List.{List}
-use mathlib.Core.Path.{◌≡◌, sym, ◌∙◌}
+use mathlib.Core.Path.{◌≡◌}
 use native.Mathlib.Omega.{arith}
 use lib.ListN.{length, take, set, length-set}
-use lib.Seq.{take_all}
 use Rattle.laws.specs.Lists.{each}
 use Rattle.laws.proofs.Each.{each_store}
 
@@ -16,8 +15,3 @@ Filled f l i = (i ≤ 4096) × (4096 ≡ length l) × (take i l ≡ each f i)
 module _ (f : ℕ → ℕ) (l : List ℕ) where
   pub filled_more : (i v : ℕ) → i < 4096 → Filled f l i → v ≡ f i → Filled f (set l i v) (i + 1)
   filled_more i v h p e = (omega arith, simp length-set p.1, each_store f l i v (omega arith) p.2 e)
-
-  pub filled_all : (i : ℕ) → 4096 ≤ i → Filled f l i → (4096 ≡ length l) × (l ≡ each f 4096)
-  filled_all i h p =
-      let n : i ≡ 4096 = omega arith in
-      (p.1, sym (take_all 4096 l (omega arith)) ∙ rw n at p.2)

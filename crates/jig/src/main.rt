@@ -7,9 +7,10 @@ ghost use Rattle.job.specs.Kept.{capacity};
 ghost use Rattle.report.specs.Text.{text_of};
 ghost use Rattle.report.specs.Requires.{room};
 
-// Standard input and standard output.
+// Standard input.
 const STDIN_FILENO: i32 = 0;
 
+// Standard output.
 const STDOUT_FILENO: i32 = 1;
 
 // Reads and drops a part of the input, and answers how many bytes it had.

@@ -2,18 +2,15 @@
 --     take_least, drop_least     a part that is cut where the list ends
 --     drop_take                  the end of a front
 --     record_part                the record
---     bytes_length, readings_part            the first readings and their bytes
---     Lies, lies                             the order of the places between the parts
-use Prim.Native.Nat.{ℕ, zero, suc, ◌+◌, ◌-◌, ◌*◌, ◌/◌, ◌≤◌, ◌<◌, min}
+--     readings_part              the first readings
+use Prim.Native.Nat.{ℕ, zero, suc, ◌+◌, ◌-◌, ◌*◌, ◌/◌, ◌≤◌, min}
 use mathlib.Core.List.{List, [], ◌∷◌}
 use mathlib.Core.Path.{◌≡◌, sym, ◌∙◌}
 use borrow.Author.Tests.{ltb-true, ltb-false}
 use native.Mathlib.Omega.{arith}
 use lib.Dec.{ltb}
-use lib.ListN.{length, take, drop, length-take, length-drop, drop_of_length-le}
+use lib.ListN.{length, take, drop, length-drop, drop_of_length-le}
 use lib.Seq.{take_all, take-nil, take-take}
-use mir.Syntax.{w64}
-use mir.Val.{Fits}
 use Rattle.laws.proofs.Tests.{cases}
 use Rattle.pairs.specs.Pairs.{pairs}
 use Rattle.pairs.proofs.Pairs.{pairs_take, pairs_length}
@@ -45,32 +42,8 @@ record_part l from start e f =
 
 -- the first bytes after the record, which hold the first readings
 module _ (l : List ℕ) (start fed : ℕ) (e : start ≡ min (readings_at l) (length l)) (f : fed ≡ min ((length l - start) / 2) max_readings) where
-  pub bytes_length : length (take (start + 2 * fed - start) (drop start l)) ≡ 2 * fed
-  bytes_length = rw (length-take, length-drop) (omega arith)
-
   pub readings_part : take fed (pairs (take (start + 2 * fed - start) (drop start l))) ≡ take max_readings (readings_of l)
   readings_part =
       let d : start + 2 * fed - start ≡ 2 * fed = omega arith in
       rw (d, drop_least start (readings_at l) l e, pairs_take fed (drop (readings_at l) l), take-take fed fed (readings_of l) (omega arith))
       (take_least fed max_readings (readings_of l) (rw (pairs_length, length-drop) (omega arith)))
-
--- the record stands from `from` on, the readings from `start` on, of which `fed` are decoded; n is the length
-pub record Lies (n from start fed : ℕ) : Type 0 where
-  pub ordered : from ≤ start
-  pub start_in : start ≤ n
-  pub end_in : start + 2 * fed ≤ n
-  pub end_after : start ≤ start + 2 * fed
-  pub end_fits : Fits w64 (start + 2 * fed)
-  pub size_fits : Fits w64 (2 * fed)
-  pub few : fed ≤ max_readings
-
-pub lies : (n size from start fed : ℕ) → size < 256 → from ≡ min 6 n → start ≡ min (6 + size) n → fed ≡ min ((n - start) / 2) max_readings → Lies n from start fed
-lies n size from start fed b e f g = record {
-  ordered = omega arith;
-  start_in = omega arith;
-  end_in = omega arith;
-  end_after = omega arith;
-  end_fits = omega arith;
-  size_fits = omega arith;
-  few = omega arith;
-}

@@ -48,7 +48,7 @@ pub fn put_lines(
 ) -> usize
     requires columns_nonzero { 0 < columns }
     requires count_in_bounds { count ≤ length words.now }
-    requires count_in_bounds_2 { at + count * 106 ≤ length out.old }
+    requires room { at + count * 106 ≤ length out.old }
     ensures end { result ≤ at + count * 106 }
     ensures text { take result out.new ≡ take at out.old ++ lines_text columns truncation words.now count }
 {

@@ -46,7 +46,7 @@ fn whole(limit: f64) -> u64
 // The two limits of an ordinary word.
 fn put_limits(out: &mut [u8], at: usize, low: f64, high: f64) -> usize
     requires at_in_bounds { at + 42 ≤ length out.old }
-    requires t { T (in_unsigned binary64 64 low) × T (in_unsigned binary64 64 high) }
+    requires limits_whole { T (in_unsigned binary64 64 low) × T (in_unsigned binary64 64 high) }
     ensures end { result ≤ at + 42 }
     ensures text { take result out.new ≡ take at out.old ++ ((decimal (whole_of low) ++ dots) ++ decimal (whole_of high)) }
 {

@@ -1,5 +1,5 @@
 -- What the frame is handed are the parts of the input; so its answer and words are the job's.
-use Rattle.std.proofs.Common.{◌≡◌, cond, ℕ, ◌/◌, ◌≤◌, ◌+◌, ◌-◌, ◌*◌, ◌<◌, length, List, ◌++◌, Bool, eqb, take, drop, min, replicate, ℤ, pos, sym, ap, ◌∙◌}
+use Rattle.std.proofs.Common.{◌≡◌, cond, ℕ, ◌/◌, ◌≤◌, ◌+◌, ◌-◌, ◌*◌, length, List, ◌++◌, Bool, eqb, take, drop, min, replicate, ℤ, pos, sym, ap, ◌∙◌, arith}
 use Rattle.std.proofs.Math.Seq.{length-take-le, take_at}
 use Rattle.checks.specs.declared.Answer.{Answer}
 use Rattle.checks.specs.declared.Answer.TheVariants.{Taken}
@@ -11,7 +11,7 @@ use Rattle.pairs.specs.Pairs.{pairs}
 use Rattle.input.specs.Input.{width_of, height_of, binned_byte, record_length, max_pixels, max_readings}
 use Rattle.input.specs.Checks.{area, input_checks}
 use Rattle.job.specs.Job.{job_answer}
-use Rattle.job.proofs.Parts.{record_part, readings_part, Lies, lies}
+use Rattle.job.proofs.Parts.{record_part, readings_part}
 use Rattle.job.proofs.Jobs.{Handed, handed, few_words, zeros, first_readings, answer_is, turned_down, carried}
 use Rattle.job.proofs.run.carry_out.Goals as goal
 
@@ -30,7 +30,6 @@ hands : (bytes : List ℕ) (w h b size from start fed count : ℕ) (decoded : Li
     → h ≡ height_of bytes
     → b ≡ binned_byte bytes
     → size ≡ record_length bytes
-    → size < 256
     → from ≡ min 6 (length bytes)
     → start ≡ min (6 + size) (length bytes)
     → fed ≡ min ((length bytes - start) / 2) max_readings
@@ -39,9 +38,8 @@ hands : (bytes : List ℕ) (w h b size from start fed count : ℕ) (decoded : Li
     → length decoded ≡ length (take fed no_readings)
     → decoded ≡ take (length (take fed no_readings)) (pairs (take (start + 2 * fed - start) (drop start bytes)))
     → Handed bytes w h (eqb b 1) (take (start - from) (drop from bytes)) (take fed (decoded ++ drop fed no_readings)) (take (w * h) no_sums) (take count no_words)
-hands bytes w h b size from start fed count decoded width height flag len small from_is start_is fed_is count_is few long decoded_is =
-    let places : Lies (length bytes) from start fed = lies (length bytes) size from start fed small from_is start_is fed_is in
-    let fed_zeros : length (take fed no_readings) ≡ fed = length-take-le fed no_readings places.few in
+hands bytes w h b size from start fed count decoded width height flag len from_is start_is fed_is count_is few long decoded_is =
+    let fed_zeros : length (take fed no_readings) ≡ fed = length-take-le fed no_readings (omega arith) in
     let begins : start ≡ min (6 + record_length bytes) (length bytes) = start_is ∙ rw len in
     let pixels : w * h ≤ max_pixels = rw (width, height) few in
     let parts : decoded ≡ first_readings bytes =
@@ -70,7 +68,7 @@ pub returns-in-Taken : goal.returns-in-Taken
 returns-in-Taken c total t =
     let bytes = c.args.input.now in
     let e = hands bytes c.pair-width.result c.pair-height.result c.byte-binned.result c.byte.result c.least-from.result c.least-start.result c.least-fed.result c.word_count-count.result c.decode.new.readings
-    c.pair-width.ensures c.pair-height.ensures c.byte-binned.ensures c.byte.ensures c.byte.type_inv c.least-from.ensures c.least-start.ensures c.least-fed.ensures c.word_count-count.ensures c.requires c.decode.auto.readings c.decode.ensures in
+    c.pair-width.ensures c.pair-height.ensures c.byte-binned.ensures c.byte.ensures c.least-from.ensures c.least-start.ensures c.least-fed.ensures c.word_count-count.ensures c.requires c.decode.auto.readings c.decode.ensures in
     let few : c.word_count-count.result ≤ max_pixels = rw c.word_count-count.ensures (few_words (eqb c.byte-binned.result 1) _ (rw (c.pair-width.ensures, c.pair-height.ensures) c.requires)) in
     carried bytes total _ _ _ _ _ _
     (job_answer_is total c.frame_of-answer.result e t c.frame_of-answer.ensures.answer)
@@ -84,6 +82,6 @@ pub returns-in-Refused : goal.returns-in-Refused
 returns-in-Refused c total t =
     let bytes = c.args.input.now in
     let e = hands bytes c.pair-width.result c.pair-height.result c.byte-binned.result c.byte.result c.least-from.result c.least-start.result c.least-fed.result c.word_count-count.result c.decode.new.readings
-    c.pair-width.ensures c.pair-height.ensures c.byte-binned.ensures c.byte.ensures c.byte.type_inv c.least-from.ensures c.least-start.ensures c.least-fed.ensures c.word_count-count.ensures c.requires c.decode.auto.readings c.decode.ensures in
+    c.pair-width.ensures c.pair-height.ensures c.byte-binned.ensures c.byte.ensures c.least-from.ensures c.least-start.ensures c.least-fed.ensures c.word_count-count.ensures c.requires c.decode.auto.readings c.decode.ensures in
     let is = c.in-Refused.is in
     rw (c.refused.ensures, is) (turned_down bytes total _ (sym (job_answer_is total c.frame_of-answer.result e t c.frame_of-answer.ensures.answer) ∙ is))
