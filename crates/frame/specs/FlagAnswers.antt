@@ -4,7 +4,6 @@ use Rattle.places.specs.declared.Nearest.{Nearest}
 use Rattle.places.specs.declared.Nearest.TheVariants.{At, NoFlag, Refused}
 use Rattle.places.specs.declared.Count.{Count}
 use Rattle.places.specs.declared.Count.TheVariants.{Flags}
-use Rattle.places.specs.declared.Count.TheVariants as Count
 
 -- the refusal's number, 0 if there is none
 abbrev pub nearest_number : Nearest → ℕ
