@@ -1,6 +1,6 @@
 -- Frames that are refused before all of their readings, or of their record, matter.
 --     refused_last                    what checks that end in a refusal leave
---     overlong_checks, overlong_answer_lem a record that is too long, with any readings
+--     overlong_checks, overlong_answer_lem    a record that is too long, with any readings
 --     enough_answer, enough_words     of readings, more than any ramp wants are enough: Feed answers 12 before it looks at them
 use Prim.Native.Nat.{ℕ, ◌+◌, ◌*◌, ◌<◌}
 use mathlib.Core.Bool.{Bool}
