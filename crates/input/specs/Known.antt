@@ -1,5 +1,6 @@
 -- Inputs with known answers and known parts, in one table that one statement covers. The bytes are hexadecimal.
 use Rattle.std.specs.Prelude.{ℕ, Bool, true, false, List, [], ◌∷◌, ◌≡◌}
+use Rattle.laws.specs.Tables.{AllHold}
 use Rattle.checks.specs.declared.Answer.{Answer}
 use Rattle.checks.specs.declared.Answer.TheVariants.{Taken, Refused}
 use Rattle.checks.specs.Checks.{refusal, verdict}
@@ -20,10 +21,6 @@ Holds (parts bytes width height binned update readings) =
     × (is_binned bytes ≡ binned)
     × (record_of bytes ≡ update)
     × (readings_of bytes ≡ readings)
-
-abbrev pub AllHold : List Known → Type 0
-AllHold [] = Unit {0}
-AllHold (row ∷ rows) = Holds row × AllHold rows
 
 abbrev pub table : List Known
 table =
@@ -70,4 +67,4 @@ table =
 
 -- every row follows from the definitions
 abbrev pub AllKnown : Type 0
-AllKnown = AllHold table
+AllKnown = AllHold Holds table

@@ -1,8 +1,35 @@
--- Of the table of known jobs, how many words stand in a row. The whole table is shown where the operations are at hand: in `report`, `proofs/Known.antt`.
-use mathlib.Core.Path.{◌≡◌, refl}
-use Rattle.job.specs.Job.{columns_of}
-use Rattle.job.specs.Known.{pixels, squares}
+-- The table of known jobs, row by row, by computation.
+use mathlib.Core.Path.{refl}
+use Rattle.laws.specs.Lists.{each, every, any_of, total}
+use Rattle.laws.proofs.Tables.{◌then◌}
+use Rattle.checks.specs.Search.{first_place}
+use Rattle.checks.specs.Checks.{verdict}
+use Rattle.settings.specs.Settings.{in_range}
+use Rattle.record.specs.Record.{stands, field_of, place_of, weight_of}
+use Rattle.update.specs.Update as Update
+use Rattle.fields.specs.Fields.{with_bits}
+use Rattle.entries.specs.Mark.{sample_of}
+use Rattle.entries.specs.Possible.{possible_after}
+use Rattle.step.specs.Step.{step}
+use Rattle.sums.specs.Feed.{feed_one, feed_all}
+use Rattle.encoding.specs.Word.{smallest_mark, is_negative}
+use Rattle.encoding.specs.Frame.{pixels_of, word_at, frame_of}
+use Rattle.board.specs.Board.{sides_taken, sound}
+use Rattle.board.specs.Open.{open_of}
+use Rattle.operations.specs.Update.{update_of}
+use Rattle.operations.specs.Ramp.{start_of}
+use Rattle.operations.specs.Feed.{feed_of, fed_sums}
+use Rattle.operations.specs.ReadOut.{read_out_of, read_out_words}
+use Rattle.whole_frame.specs.Chain.{frame_answer, frame_words}
+use Rattle.pairs.specs.Pairs.{pairs}
+use Rattle.job.specs.Job.{job_answer, job_words}
+use Rattle.job.specs.Known.{pixels, squares, record_missing, odd_byte, reading_too_large, AllKnown}
 
-pub known_columns : (columns_of pixels ≡ 2) × (columns_of squares ≡ 2)
-unfolding pixels squares
-known_columns = (refl, refl)
+pub known : AllKnown
+unfolding pixels squares record_missing odd_byte reading_too_large job_words frame_words job_answer verdict sides_taken frame_answer open_of update_of start_of feed_of fed_sums read_out_of read_out_words sound in_range every any_of stands field_of place_of weight_of Update.update_of with_bits each first_place possible_after feed_all feed_one step pairs frame_of pixels_of word_at smallest_mark sample_of is_negative total
+known =
+    (refl, refl, refl, refl)
+    then (refl, refl, refl, refl)
+    then refl then refl
+    then refl
+    then tt
