@@ -2,15 +2,14 @@
 --     frame_from_lem      its words are those that its readings make
 --     frame_claim     and none is false under covered settings
 use Prim.Native.Nat.{ℕ}
-use mathlib.Core.Bool.{Bool}
+use mathlib.Core.Bool.{Bool, true}
 use mathlib.Core.List.{List, [], ◌∷◌}
 use mathlib.Core.Path.{◌≡◌, refl, sym, ◌∙◌}
 use lib.IntN.{ℤ}
-use Rattle.checks.specs.declared.Answer.TheVariants.{Taken}
+use Rattle.std.specs.Prelude.{Ok}
 use Rattle.checks.specs.Checks.{first, verdict}
 use Rattle.checks.proofs.Laws.{both_taken}
 use Rattle.board.specs.declared.Board.{Board}
-use Rattle.board.specs.declared.Coverage.TheVariants.{Covered}
 use Rattle.board.specs.Open.{open_of}
 use Rattle.operations.specs.Feed.{fed_sums}
 use Rattle.operations.specs.Covered.{coverage_of}
@@ -24,7 +23,7 @@ use Rattle.whole_frame.specs.Chain.{fed, frame_answer, frame_words}
 use Rattle.whole_frame.proofs.Whole.{frame_is}
 use Rattle.agreement.specs.Laws.{ledger_of}
 
-module _ (w h : ℕ) (binned : Bool) (bytes xs : List ℕ) (sums : List ℤ) (output : List ℕ) (taken : frame_answer w h binned bytes xs sums output ≡ Taken) where
+module _ (w h : ℕ) (binned : Bool) (bytes xs : List ℕ) (sums : List ℤ) (output : List ℕ) (taken : frame_answer w h binned bytes xs sums output ≡ Ok tt) where
   abbrev b : Board
   b = (started w h binned bytes).board
 
@@ -35,18 +34,18 @@ module _ (w h : ℕ) (binned : Bool) (bytes xs : List ℕ) (sums : List ℤ) (ou
   abbrev calls : List Call
   calls = update bytes ∷ start ∷ feed xs sums ∷ read_out left output ∷ []
 
-  abbrev halves : ((begun w h binned bytes).answer ≡ Taken) × (first (fed b xs sums).answer (Chain.read_out b xs sums output).answer ≡ Taken)
+  abbrev halves : ((begun w h binned bytes).answer ≡ Ok tt) × (first (fed b xs sums).answer (Chain.read_out b xs sums output).answer ≡ Ok tt)
   halves = both_taken (begun w h binned bytes).answer _ (sym (frame_is w h binned bytes xs sums output) ∙ taken)
 
-  abbrev last_two : ((fed b xs sums).answer ≡ Taken) × ((Chain.read_out b xs sums output).answer ≡ Taken)
+  abbrev last_two : ((fed b xs sums).answer ≡ Ok tt) × ((Chain.read_out b xs sums output).answer ≡ Ok tt)
   last_two = both_taken (fed b xs sums).answer _ halves.1
 
-  first_three : ((open_of w h binned).answer ≡ Taken) × ((updated w h binned bytes).answer ≡ Taken) × ((started w h binned bytes).answer ≡ Taken)
+  first_three : ((open_of w h binned).answer ≡ Ok tt) × ((updated w h binned bytes).answer ≡ Ok tt) × ((started w h binned bytes).answer ≡ Ok tt)
   unfolding verdict
   first_three =
       let p = both_taken (open_of w h binned).answer _ halves.0 in
       let q = both_taken (updated w h binned bytes).answer _ p.1 in
-      (p.0, q.0, (both_taken (started w h binned bytes).answer Taken q.1).0)
+      (p.0, q.0, (both_taken (started w h binned bytes).answer (Ok tt) q.1).0)
 
   abbrev ℓ : Ledger
   ℓ = ledger_of w h binned bytes xs sums
@@ -56,15 +55,15 @@ module _ (w h : ℕ) (binned : Bool) (bytes xs : List ℕ) (sums : List ℤ) (ou
   answers = demands.demand_1 w h binned first_three.0 calls
 
   -- the ledger takes what the board takes
-  start_taken : refusal (next (fresh w h binned) (update bytes)) start ≡ Taken
+  start_taken : refusal (next (fresh w h binned) (update bytes)) start ≡ Ok tt
   unfolding moments
   start_taken = sym answers.1.0.answer ∙ first_three.2
 
-  feed_taken : refusal (next (next (fresh w h binned) (update bytes)) start) (feed xs sums) ≡ Taken
+  feed_taken : refusal (next (next (fresh w h binned) (update bytes)) start) (feed xs sums) ≡ Ok tt
   unfolding moments
   feed_taken = sym answers.1.1.0.answer ∙ last_two.0
 
-  read_out_taken : refusal ℓ (read_out left output) ≡ Taken
+  read_out_taken : refusal ℓ (read_out left output) ≡ Ok tt
   unfolding moments
   read_out_taken = sym answers.1.1.1.0.answer ∙ last_two.1
 
@@ -75,7 +74,7 @@ module _ (w h : ℕ) (binned : Bool) (bytes xs : List ℕ) (sums : List ℤ) (ou
       ((demands.demand_2 w h binned first_three.0 calls).1.1.1.0 left output
       (record { brings = refl; taken = read_out_taken; handed_on = rw (feed_taken, start_taken) (tt, refl) }))
 
-  pub frame_claim : coverage_of (view_of (ledger_of w h binned bytes xs sums)) ≡ Covered → FrameClaim (ledger_of w h binned bytes xs sums) Taken (frame_words w h binned bytes xs sums output)
+  pub frame_claim : coverage_of (view_of (ledger_of w h binned bytes xs sums)) ≡ Ok true → FrameClaim (ledger_of w h binned bytes xs sums) (Ok tt) (frame_words w h binned bytes xs sums output)
   unfolding moments frame_words
   frame_claim c =
       rw (taken)

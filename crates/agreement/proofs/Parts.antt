@@ -12,7 +12,7 @@ use lib.ListN.{length}
 use Rattle.laws.specs.Lists.{every, joined}
 use Rattle.laws.proofs.Tests.{true_and}
 use Rattle.laws.proofs.Elements.{every_append}
-use Rattle.checks.specs.declared.Answer.TheVariants.{Taken}
+use Rattle.std.specs.Prelude.{Ok}
 use Rattle.checks.specs.Checks.{first, verdict}
 use Rattle.checks.proofs.Laws.{both_taken}
 use Rattle.readings.specs.Readings.{reading_in_range}
@@ -44,11 +44,11 @@ module _ (w h : ℕ) (binned : Bool) (bytes : List ℕ) where
   abbrev summed : ℕ → List ℕ → List ℤ → List ℤ
   summed n xs sums = feed_all (pos 0) (step b.in_force) (length sums) n xs sums
 
-  module _ (n : ℕ) (xs : List ℕ) (sums : List ℤ) (taken : feed_answer w h binned bytes n xs sums ≡ Taken) where
-    abbrev both : ((begun w h binned bytes).answer ≡ Taken) × ((feed_of (part_fed w h binned bytes n) xs sums).answer ≡ Taken)
+  module _ (n : ℕ) (xs : List ℕ) (sums : List ℤ) (taken : feed_answer w h binned bytes n xs sums ≡ Ok tt) where
+    abbrev both : ((begun w h binned bytes).answer ≡ Ok tt) × ((feed_of (part_fed w h binned bytes n) xs sums).answer ≡ Ok tt)
     both = both_taken (begun w h binned bytes).answer _ (sym (feed_is w h binned bytes n xs sums) ∙ taken)
 
-    part_passed : verdict (feed_checks (part_fed w h binned bytes n) xs sums) ≡ Taken
+    part_passed : verdict (feed_checks (part_fed w h binned bytes n) xs sums) ≡ Ok tt
     unfolding feed_of
     part_passed = both.1
 
@@ -74,7 +74,7 @@ module _ (w h : ℕ) (binned : Bool) (bytes : List ℕ) where
 
   module _ (parts : List (List ℕ)) (sums : List ℤ) (output : List ℕ) (taken : PartsTaken w h binned bytes 0 parts sums)
       (full : length (joined parts) ≡ wanted (started w h binned bytes).board)
-      (read : read_out_answer w h binned bytes (fed_in_parts w h binned bytes 0 parts sums) output ≡ Taken) where
+      (read : read_out_answer w h binned bytes (fed_in_parts w h binned bytes 0 parts sums) output ≡ Ok tt) where
     abbrev xs : List ℕ
     xs = joined parts
 
@@ -87,17 +87,17 @@ module _ (w h : ℕ) (binned : Bool) (bytes : List ℕ) where
     none : b.fed ≡ 0
     none = started_unfed w h binned bytes
 
-    abbrev both_read : ((begun w h binned bytes).answer ≡ Taken) × ((read_out_of all left output).answer ≡ Taken)
+    abbrev both_read : ((begun w h binned bytes).answer ≡ Ok tt) × ((read_out_of all left output).answer ≡ Ok tt)
     both_read = both_taken (begun w h binned bytes).answer _ (sym (read_out_is w h binned bytes left output) ∙ read)
 
-    read_passed : verdict (read_out_checks all left output) ≡ Taken
+    read_passed : verdict (read_out_checks all left output) ≡ Ok tt
     unfolding read_out_of
     read_passed = both_read.1
 
     left_is : left ≡ summed 0 xs sums
     left_is = parts_left parts 0 sums taken
 
-    whole_feed : verdict (feed_checks b xs sums) ≡ Taken
+    whole_feed : verdict (feed_checks b xs sums) ≡ Ok tt
     unfolding every
     whole_feed =
         let r = read_out_taken all left output read_passed in
@@ -113,15 +113,15 @@ module _ (w h : ℕ) (binned : Bool) (bytes : List ℕ) where
           entries = rw none (never_damaged b.in_force p.in_force (length sums) some [] refl (omega arith) sums (agrees_none b.in_force p.in_force (length sums) some sums refl) (length xs));
         })
 
-    feed_answer_lem : (fed b xs sums).answer ≡ Taken
+    feed_answer_lem : (fed b xs sums).answer ≡ Ok tt
     unfolding feed_of
     feed_answer_lem = whole_feed
 
-    whole_both : first (fed b xs sums).answer (read_out b xs sums output).answer ≡ Taken
+    whole_both : first (fed b xs sums).answer (read_out b xs sums output).answer ≡ Ok tt
     whole_both =
         rw (feed_answer_lem, then_read_out b none xs sums whole_feed output, le-ltb (length xs) (wanted b) (omega (arith, full)), eq-eqb _ _ (read_out_taken all left output read_passed).room)
 
-    pub whole_answer : frame_answer w h binned bytes (joined parts) sums output ≡ Taken
+    pub whole_answer : frame_answer w h binned bytes (joined parts) sums output ≡ Ok tt
     whole_answer = frame_is w h binned bytes xs sums output ∙ rw (both_read.0, whole_both)
 
     pub whole_sums : frame_sums w h binned bytes (joined parts) sums output ≡ fed_in_parts w h binned bytes 0 parts sums

@@ -1,8 +1,6 @@
 -- What must be true of a whole frame, its single steps and lists of calls, beside the contracts. `proofs/Laws.antt` shows it.
-use Rattle.std.specs.Prelude.{ℕ, ◌+◌, Bool, List, [], ◌∷◌, ◌≡◌, ℤ, length}
+use Rattle.std.specs.Prelude.{ℕ, ◌+◌, Bool, true, List, [], ◌∷◌, ◌≡◌, ℤ, length, Ok}
 use Rattle.laws.specs.Lists.{joined}
-use Rattle.checks.specs.declared.Answer.TheVariants.{Taken}
-use Rattle.board.specs.declared.Coverage.TheVariants.{Covered}
 use Rattle.board.specs.Board.{wanted}
 use Rattle.operations.specs.Covered.{coverage_of}
 use Rattle.history.specs.Calls.{update, start, feed, Ledger, fresh, view_of, next}
@@ -22,7 +20,7 @@ fed_in_parts width height binned bytes count (part ∷ parts) sums =
 abbrev pub PartsTaken : ℕ → ℕ → Bool → List ℕ → ℕ → List (List ℕ) → List ℤ → Type 0
 PartsTaken width height binned bytes count [] sums = Unit {0}
 PartsTaken width height binned bytes count (part ∷ parts) sums =
-    (feed_answer width height binned bytes count part sums ≡ Taken)
+    (feed_answer width height binned bytes count part sums ≡ Ok tt)
     × PartsTaken width height binned bytes (count + length part) parts (feed_leaves width height binned bytes count part sums)
 
 -- the ledger that the Read out of a frame finds: a board that Open gave, then Update, Start, and a Feed of all readings
@@ -35,14 +33,14 @@ pub record AgreementLaws : Type 0 where
       → PartsTaken width height binned bytes 0 parts sums
       → length (joined parts) ≡ wanted (started width height binned bytes).board
       → let left = fed_in_parts width height binned bytes 0 parts sums in
-      read_out_answer width height binned bytes left output ≡ Taken
-      → (frame_answer width height binned bytes (joined parts) sums output ≡ Taken)
+      read_out_answer width height binned bytes left output ≡ Ok tt
+      → (frame_answer width height binned bytes (joined parts) sums output ≡ Ok tt)
       × (frame_sums width height binned bytes (joined parts) sums output ≡ left)
       × (frame_words width height binned bytes (joined parts) sums output ≡ read_out_leaves width height binned bytes left output)
   -- a taken frame stands in a list of calls: its words are those that its readings make, and none is false where Covered says "covered"
   pub in_a_list : (width height : ℕ) (binned : Bool) (bytes readings : List ℕ) (sums : List ℤ) (output : List ℕ)
-      → frame_answer width height binned bytes readings sums output ≡ Taken
+      → frame_answer width height binned bytes readings sums output ≡ Ok tt
       → let ℓ = ledger_of width height binned bytes readings sums in
       let words = frame_words width height binned bytes readings sums output in
       (words ≡ frame_from ℓ)
-      × (coverage_of (view_of ℓ) ≡ Covered → FrameClaim ℓ Taken words)
+      × (coverage_of (view_of ℓ) ≡ Ok true → FrameClaim ℓ (Ok tt) words)

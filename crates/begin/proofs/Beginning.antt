@@ -3,14 +3,15 @@
 --     begun_sound, begun_sides     where none of the three refuses, the board is sound, and Open takes its sides
 --     started_unfed    a board that was opened, updated and started, or refused on the way, has nothing fed
 --     started_area     and no more pixels than Open was asked for
+--     begun_is, begun_refused     what `begin` answers
 use Prim.Native.Nat.{ℕ, ◌*◌, ◌≤◌}
 use mathlib.Core.Bool.{Bool, true}
 use mathlib.Core.List.{List, [], ◌∷◌}
 use mathlib.Core.Path.{◌≡◌, refl, ◌∙◌}
 use native.Mathlib.Omega.{arith}
-use Rattle.checks.specs.declared.Answer.{Answer}
-use Rattle.checks.specs.declared.Answer.TheVariants.{Taken, Refused}
-use Rattle.checks.specs.Checks.{first, verdict, by_answer}
+use Rattle.std.specs.Prelude.{Ok, Err}
+use Rattle.checks.specs.declared.Refusal.{Refusal}
+use Rattle.checks.specs.Checks.{Answer, first, verdict, by_answer, or_refused}
 use Rattle.checks.proofs.Laws.{verdict_append, both_taken}
 use Rattle.board.specs.declared.Board.{Board}
 use Rattle.board.specs.Board.{area, sides_taken, sound, opened}
@@ -23,27 +24,27 @@ use Rattle.operations.proofs.Laws as OperationLaws
 use Rattle.begin.specs.Begun.{updated, started, begun}
 
 unfed : (a : Answer) (new old : Board) → new.fed ≡ 0 → old.fed ≡ 0 → (by_answer a new old).fed ≡ 0
-unfed Taken new old p q = p
-unfed (Refused r) new old p q = q
+unfed (Ok tt) new old p q = p
+unfed (Err r) new old p q = q
 
 within : (a : Answer) (new old : Board) (m : ℕ) → area new ≤ m → area old ≤ m → area (by_answer a new old) ≤ m
-within Taken new old m p q = p
-within (Refused r) new old m p q = q
+within (Ok tt) new old m p q = p
+within (Err r) new old m p q = q
 
 module _ (w h : ℕ) (binned : Bool) (bytes : List ℕ) where
   pub begun_then : (l : List Answer)
       → verdict ((open_of w h binned).answer ∷ (updated w h binned bytes).answer ∷ (started w h binned bytes).answer ∷ l) ≡ first (begun w h binned bytes).answer (verdict l)
   begun_then l = verdict_append ((open_of w h binned).answer ∷ (updated w h binned bytes).answer ∷ (started w h binned bytes).answer ∷ []) l
 
-  pub begun_sound : (begun w h binned bytes).answer ≡ Taken → sound (started w h binned bytes).board ≡ true
+  pub begun_sound : (begun w h binned bytes).answer ≡ Ok tt → sound (started w h binned bytes).board ≡ true
   unfolding verdict
   begun_sound t =
       (OperationLaws.laws).stays_sound.start (updated w h binned bytes).board
       ∙ (OperationLaws.laws).stays_sound.update (open_of w h binned).board bytes
       ∙ (BoardLaws.laws).opened_sound w h binned (both_taken (open_of w h binned).answer _ t).0
 
-  pub begun_sides : (begun w h binned bytes).answer ≡ Taken
-      → let b = (started w h binned bytes).board in sides_taken b.width b.height b.binned ≡ true
+  pub begun_sides : (begun w h binned bytes).answer ≡ Ok tt
+      → let b = (started w h binned bytes).board in sides_taken b.sides.width b.sides.height b.sides.binned ≡ true
   begun_sides t = (sound_parts _ (begun_sound t)).sides
 
   pub started_unfed : (started w h binned bytes).board.fed ≡ 0
@@ -58,3 +59,19 @@ module _ (w h : ℕ) (binned : Bool) (bytes : List ℕ) where
       let o = within (open_of w h binned).answer (opened w h binned) no_board (w * h) (omega arith) (omega arith) in
       let u = within (updated w h binned bytes).answer _ _ (w * h) o o in
       within (started w h binned bytes).answer _ _ (w * h) u u
+
+ok_parts : (a : Answer) (x b : Board) → Ok b ≡ or_refused a x → (a ≡ Ok tt) × (x ≡ b)
+ok_parts (Ok tt) x b e = (refl, cc)
+ok_parts (Err r) x b e = cc
+
+err_part : (a : Answer) (x : Board) (r : Refusal) → Err r ≡ or_refused a x → a ≡ Err r
+err_part (Ok tt) x r e = cc
+err_part (Err s) x r e = cc
+
+module _ (w h : ℕ) (binned : Bool) (bytes : List ℕ) where
+  pub begun_is : (b : Board) → Ok b ≡ or_refused (begun w h binned bytes).answer (begun w h binned bytes).board
+      → ((begun w h binned bytes).answer ≡ Ok tt) × ((started w h binned bytes).board ≡ b)
+  begun_is b e = ok_parts (begun w h binned bytes).answer (started w h binned bytes).board b e
+
+  pub begun_refused : (r : Refusal) → Err r ≡ or_refused (begun w h binned bytes).answer (begun w h binned bytes).board → (begun w h binned bytes).answer ≡ Err r
+  begun_refused r e = err_part (begun w h binned bytes).answer (started w h binned bytes).board r e

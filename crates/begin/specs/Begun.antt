@@ -1,7 +1,7 @@
 -- A board is opened, updated with a record and started: each operation gets the board that the one before left.
 use Rattle.std.specs.Prelude.{ℕ, Bool, List, [], ◌∷◌}
 use Rattle.checks.specs.Checks.{verdict}
-use Rattle.board.specs.declared.Outcome.{Outcome}
+use Rattle.board.specs.Board.{Outcome}
 use Rattle.board.specs.Open.{open_of}
 use Rattle.operations.specs.Update.{update_of}
 use Rattle.operations.specs.Ramp.{start_of}

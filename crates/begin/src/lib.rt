@@ -2,26 +2,21 @@
 #![tactic(auto)]
 
 ghost use Rattle.std.specs.Prelude.{◌≡◌};
+ghost use Rattle.checks.specs.Checks.{or_refused};
 ghost use Rattle.begin.specs.Begun.{begun};
 
-use board::{Board, Outcome};
+use board::Board;
+use checks::Refusal;
 use control::{start, update};
+use sides::Sides;
 
-// The first refusal of the three, and the board that they leave.
-pub fn begin(width: usize, height: usize, binned: bool, record: &[u8]) -> Outcome
-    ensures { result ≡ begun width height binned «record».now }
+// The first refusal of the three, or the board that they leave.
+#[tactic(auto, unfolding(checks::specs::Checks::verdict))]
+pub fn begin(sides: Sides, record: &[u8]) -> Result<Board, Refusal>
+    ensures { let b = begun sides.width sides.height sides.binned «record».now in result ≡ or_refused b.answer b.board }
 {
-    let opened = Board::open(width, height, binned);
-    let open_answer = opened.answer;
-    let open_board = opened.board;
-    let updated = update(open_board, record);
-    let update_answer = updated.answer;
-    let update_board = updated.board;
-    let started = start(update_board);
-    let start_answer = started.answer;
-    let board = started.board;
-    Outcome {
-        answer: open_answer.then(update_answer.then(start_answer)),
-        board: board,
-    }
+    let mut board = Board::open(sides)?;
+    update(&mut board, record)?;
+    start(&mut board)?;
+    Ok(board)
 }

@@ -4,9 +4,8 @@ use mathlib.Core.Bool.{true}
 use mathlib.Core.List.{List, [], ◌∷◌, ◌++◌}
 use mathlib.Core.Path.{◌≡◌, sym, ◌∙◌}
 use borrow.Author.Tests.{eqb-true, eq-eqb, not-false}
-use Rattle.checks.specs.declared.Answer.{Answer}
-use Rattle.checks.specs.declared.Answer.TheVariants.{Taken}
-use Rattle.checks.specs.Checks.{verdict}
+use Rattle.std.specs.Prelude.{Ok}
+use Rattle.checks.specs.Checks.{Answer, verdict}
 use Rattle.checks.proofs.Laws.{verdict_append, both_taken, when_taken}
 use Rattle.board.specs.declared.Board.{Board}
 use Rattle.board.specs.Board.{area, sound}
@@ -17,27 +16,27 @@ pub record RampTaken (b : Board) (sumsLength : ℕ) : Type 0 where
   pub running : b.running ≡ true
   pub length_is : sumsLength ≡ area b
 
-pub ramp_taken : (b : Board) (n : ℕ) → verdict (ramp_checks b n) ≡ Taken → RampTaken b n
+pub ramp_taken : (b : Board) (n : ℕ) → verdict (ramp_checks b n) ≡ Ok tt → RampTaken b n
 unfolding verdict
 ramp_taken b n e =
     let p = both_taken _ _ e in
     let q = both_taken _ _ p.1 in
-    let r = both_taken _ Taken q.1 in
+    let r = both_taken _ (Ok tt) q.1 in
     record {
-      whole = not-false _ (when_taken _ 99 p.0);
-      running = not-false _ (when_taken _ 10 q.0);
-      length_is = eqb-true _ _ (not-false _ (when_taken _ 11 r.0));
+      whole = not-false _ (when_taken _ _ p.0);
+      running = not-false _ (when_taken _ _ q.0);
+      length_is = eqb-true _ _ (not-false _ (when_taken _ _ r.0));
     }
 
-pub ramp_passes : (b : Board) (n : ℕ) → RampTaken b n → verdict (ramp_checks b n) ≡ Taken
+pub ramp_passes : (b : Board) (n : ℕ) → RampTaken b n → verdict (ramp_checks b n) ≡ Ok tt
 unfolding verdict
 ramp_passes b n t = rw (t.whole, t.running, eq-eqb _ _ t.length_is)
 
 -- the checks of a ramp and three more, all taken
-pub all_taken : (ramp : List Answer) (x y z : Answer) → verdict (ramp ++ (x ∷ y ∷ z ∷ [])) ≡ Taken → (verdict ramp ≡ Taken) × (x ≡ Taken) × (y ≡ Taken) × (z ≡ Taken)
+pub all_taken : (ramp : List Answer) (x y z : Answer) → verdict (ramp ++ (x ∷ y ∷ z ∷ [])) ≡ Ok tt → (verdict ramp ≡ Ok tt) × (x ≡ Ok tt) × (y ≡ Ok tt) × (z ≡ Ok tt)
 unfolding verdict
 all_taken ramp x y z e =
     let a = both_taken (verdict ramp) (verdict (x ∷ y ∷ z ∷ [])) (sym (verdict_append ramp (x ∷ y ∷ z ∷ [])) ∙ e) in
     let p = both_taken x _ a.1 in
     let q = both_taken y _ p.1 in
-    (a.0, p.0, q.0, (both_taken z Taken q.1).0)
+    (a.0, p.0, q.0, (both_taken z (Ok tt) q.1).0)

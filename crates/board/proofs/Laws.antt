@@ -6,8 +6,9 @@ use borrow.Author.Tests.{not-false}
 use native.Mathlib.Omega.{arith}
 use Rattle.settings.proofs.Parts.{in_range_parts}
 use Rattle.settings.proofs.Laws as SettingsLaws
+use Rattle.checks.specs.declared.Reason.{Reason}
 use Rattle.checks.specs.declared.Refusal.{Refusal}
-use Rattle.checks.specs.declared.Answer.TheVariants.{Taken, Refused}
+use Rattle.std.specs.Prelude.{Ok, Err}
 use Rattle.checks.specs.Checks.{when, verdict, by_answer}
 use Rattle.checks.proofs.Laws.{first_taken, both_taken, when_taken}
 use Rattle.board.specs.Board.{sides_taken, sound, opened}
@@ -16,7 +17,7 @@ use Rattle.board.specs.Laws.{BoardLaws}
 use Rattle.board.proofs.Soundness.{sound_whole}
 
 module _ (w h : ℕ) (binned : Bool) where
-  open_sound : (n : ℕ) (t : Bool) → sides_taken w h binned ≡ t → sound (by_answer (when (not t) n) (opened w h binned) (opened 0 0 false)) ≡ t
+  open_sound : (n : Reason) (t : Bool) → sides_taken w h binned ≡ t → sound (by_answer (when (not t) n) (opened w h binned) (opened 0 0 false)) ≡ t
   unfolding sound sides_taken
   open_sound n true e =
       let d = in_range_parts _ (SettingsLaws.laws).defaults_in_range in
@@ -27,16 +28,16 @@ module _ (w h : ℕ) (binned : Bool) where
   unfolding open_of verdict
   open_is = rw (first_taken) (open_sound _ (sides_taken w h binned) refl)
 
-  opened_sound : (open_of w h binned).answer ≡ Taken → sound (open_of w h binned).board ≡ true
+  opened_sound : (open_of w h binned).answer ≡ Ok tt → sound (open_of w h binned).board ≡ true
   unfolding open_of verdict
-  opened_sound e = open_is ∙ not-false _ (when_taken _ _ (both_taken (when (not (sides_taken w h binned)) _) Taken e).0)
+  opened_sound e = open_is ∙ not-false _ (when_taken _ _ (both_taken (when (not (sides_taken w h binned)) _) (Ok tt) e).0)
 
-  refused_unsound : (r : Refusal) → (open_of w h binned).answer ≡ Refused r → sound (open_of w h binned).board ≡ false
+  refused_unsound : (r : Refusal) → (open_of w h binned).answer ≡ Err r → sound (open_of w h binned).board ≡ false
   unfolding open_of verdict
   refused_unsound r e = open_is ∙ by _ (sides_taken w h binned) (sym (first_taken (when (not (sides_taken w h binned)) _)) ∙ e)
     where
-      by : (n : ℕ) (t : Bool) → when (not t) n ≡ Refused r → t ≡ false
-      by n true q = let z : ◌≡◌ {A = ℕ} 0 1 = cc in absurd (omega arith)
+      by : (n : Reason) (t : Bool) → when (not t) n ≡ Err r → t ≡ false
+      by n true q = cc
       by n false q = refl
 
 pub laws : BoardLaws
@@ -44,6 +45,9 @@ unfolding open_of verdict
 laws = record {
   open_taken = λ w h binned e. rw e;
   open_refused = λ w h binned e. rw e;
+  open_gives_none = λ w h binned e. rw e;
+  taken_leaves = λ new old. refl;
+  refused_leaves = λ r new old. refl;
   opened_sound = opened_sound;
   refused_unsound = refused_unsound;
 }

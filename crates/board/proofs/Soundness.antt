@@ -14,7 +14,7 @@ use Rattle.board.specs.declared.Board.{Board}
 use Rattle.board.specs.Board.{area, wanted, sides_taken, idle_unfed, sound}
 
 pub record Sound (b : Board) : Type 0 where
-  pub sides : sides_taken b.width b.height b.binned ≡ true
+  pub sides : sides_taken b.sides.width b.sides.height b.sides.binned ≡ true
   pub waiting : InRange b.waiting
   pub in_force : InRange b.in_force
   pub fed : b.fed ≤ wanted b
@@ -41,7 +41,7 @@ sound_whole b s =
     rw (s.sides, in_range_whole _ s.waiting, in_range_whole _ s.in_force, le-leb _ _ s.fed) s.idle
 
 module _ (b : Board) (s : Sound b) where
-  pub sides_of : Sides b.width b.height b.binned
+  pub sides_of : Sides b.sides.width b.sides.height b.sides.binned
   sides_of = sides_parts _ _ _ s.sides
 
   -- a ramp wants at most nine readings of each pixel

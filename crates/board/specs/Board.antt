@@ -3,14 +3,13 @@ use Rattle.std.specs.Prelude.{ℕ, ◌*◌, Bool, false, not, ◌&&◌, ◌||◌
 use Rattle.sides.specs.Sides.{of_sides}
 unfoldable pub use Rattle.sides.specs.Sides.{sides_taken}
 use Rattle.settings.specs.Settings.{defaults, in_range}
-use Rattle.checks.specs.declared.Answer.{Answer}
-use Rattle.checks.specs.Checks.{when, by_answer}
+use Rattle.checks.specs.declared.Reason.TheVariants.{UnsoundBoard}
+use Rattle.checks.specs.Checks.{Answer, when, by_answer}
 use Rattle.board.specs.declared.Board.{Board}
-use Rattle.board.specs.declared.Outcome.{Outcome}
 
 -- M: the number of pixels
 abbrev pub area : Board → ℕ
-area b = b.width * b.height
+area b = b.sides.width * b.sides.height
 
 -- N × M, with the N in force: the readings that a ramp wants in all
 abbrev pub wanted : Board → ℕ
@@ -18,7 +17,7 @@ wanted b = b.in_force.samples * area b
 
 -- n for sides that Open takes, and 0 for any other
 abbrev pub of_taken_sides : Board → ℕ → ℕ
-of_taken_sides b n = of_sides b.width b.height b.binned n
+of_taken_sides b n = of_sides b.sides.width b.sides.height b.sides.binned n
 
 -- no more readings are fed than the ramp wants
 abbrev pub fed_within : Board → Bool
@@ -31,20 +30,18 @@ idle_unfed b = b.running || eqb b.fed 0
 -- *sound*: sides that Open would take, both settings within Update's ranges, at most N × M readings fed (N in force), and none fed while no ramp runs
 unfoldable pub sound : Board → Bool
 sound b =
-    sides_taken b.width b.height b.binned
+    sides_taken b.sides.width b.sides.height b.sides.binned
     && in_range b.waiting && in_range b.in_force
     && fed_within b && idle_unfed b
 
 -- the first check of every operation that is handed a board: 99 if it isn't sound
 abbrev pub unsound : Board → Answer
-unsound b = when (not (sound b)) 99
+unsound b = when (not (sound b)) UnsoundBoard
 
 -- a board that was just opened: the defaults waiting and in force, no ramp
 abbrev pub opened : ℕ → ℕ → Bool → Board
 opened width height binned = record {
-  width = width;
-  height = height;
-  binned = binned;
+  sides = record { width = width; height = height; binned = binned };
   waiting = defaults;
   in_force = defaults;
   running = false;
@@ -53,7 +50,12 @@ opened width height binned = record {
 
 -- the ramp ends
 abbrev pub ended : Board → Board
-ended b = record { width = b.width; height = b.height; binned = b.binned; waiting = b.waiting; in_force = b.in_force; running = false; fed = 0 }
+ended b = record { sides = b.sides; waiting = b.waiting; in_force = b.in_force; running = false; fed = 0 }
+
+-- what an operation answers, with the board as it leaves it
+pub record Outcome : Type 0 where
+  pub answer : Answer
+  pub board : Board
 
 -- a taken operation leaves a new board, a refused one the board as it was
 abbrev pub leaves : Answer → Board → Board → Outcome

@@ -1,11 +1,10 @@
 -- Known answers of Open and of the checks of a running ramp, and boards that are known to be sound or not, in one table that one statement covers.
-use Rattle.std.specs.Prelude.{ℕ, Bool, true, false, List, [], ◌∷◌, ◌≡◌, pos, neg_ℤ, replicate}
+use Rattle.std.specs.Prelude.{ℕ, Bool, true, false, List, [], ◌∷◌, ◌≡◌, Ok, Err, pos, neg_ℤ, replicate}
 use Rattle.laws.specs.Tables.{AllHold}
 use Rattle.settings.specs.declared.Settings.{Settings}
 use Rattle.settings.specs.Settings.{defaults, with_weights, with_threshold, with_truncation, with_samples}
-use Rattle.checks.specs.declared.Answer.{Answer}
-use Rattle.checks.specs.declared.Answer.TheVariants.{Taken, Refused}
-use Rattle.checks.specs.Checks.{refusal, verdict}
+use Rattle.checks.specs.declared.Reason.TheVariants.{BadSides, NoRamp, SumsLength, UnsoundBoard}
+use Rattle.checks.specs.Checks.{Answer, refusal, verdict}
 use Rattle.board.specs.declared.Board.{Board}
 use Rattle.board.specs.Board.{sound, opened}
 use Rattle.board.specs.Open.{open_of}
@@ -13,10 +12,10 @@ use Rattle.board.specs.RampChecks.{ramp_checks}
 
 -- a board with other settings, and with another ramp: all else of it is kept
 abbrev pub with_settings : Settings → Settings → Board → Board
-with_settings waiting in_force b = record { width = b.width; height = b.height; binned = b.binned; waiting = waiting; in_force = in_force; running = b.running; fed = b.fed }
+with_settings waiting in_force b = record { sides = b.sides; waiting = waiting; in_force = in_force; running = b.running; fed = b.fed }
 
 abbrev pub with_ramp : Bool → ℕ → Board → Board
-with_ramp running fed b = record { width = b.width; height = b.height; binned = b.binned; waiting = b.waiting; in_force = b.in_force; running = running; fed = fed }
+with_ramp running fed b = record { sides = b.sides; waiting = b.waiting; in_force = b.in_force; running = running; fed = fed }
 
 -- sides that Open is handed, and its answer; a board, and whether it is sound; settings, and whether a board is sound that has them waiting, or in force;
 -- a board and a number of sums, and what the checks that Feed and Read out begin with say
@@ -43,14 +42,14 @@ Holds (sums b count answer) = verdict (ramp_checks b count) ≡ answer
 
 abbrev pub table : List Known
 table =
-    opens 1 1024 false Taken
-    ∷ opens 0 1 false (Refused (refusal 1))
-    ∷ opens 1 0 false (Refused (refusal 1))
-    ∷ opens 1025 1 false (Refused (refusal 1))
-    ∷ opens 1 1025 false (Refused (refusal 1))
-    ∷ opens 2 2 true Taken
-    ∷ opens 1 2 true (Refused (refusal 1))
-    ∷ opens 2 1 true (Refused (refusal 1))
+    opens 1 1024 false (Ok tt)
+    ∷ opens 0 1 false (Err (refusal BadSides))
+    ∷ opens 1 0 false (Err (refusal BadSides))
+    ∷ opens 1025 1 false (Err (refusal BadSides))
+    ∷ opens 1 1025 false (Err (refusal BadSides))
+    ∷ opens 2 2 true (Ok tt)
+    ∷ opens 1 2 true (Err (refusal BadSides))
+    ∷ opens 2 1 true (Err (refusal BadSides))
     -- at most N × M readings are fed, with the N in force, and none while no ramp runs
     ∷ board idle true
     ∷ board (with_ramp false 1 idle) false
@@ -82,11 +81,11 @@ table =
     ∷ settings (with_samples 9 defaults) true
     ∷ settings (with_samples 10 defaults) false
     -- 99 before 10, 10 before 11; one sum for each pixel
-    ∷ sums (with_ramp false 1 idle) 0 (Refused (refusal 99))
-    ∷ sums idle 0 (Refused (refusal 10))
-    ∷ sums (fed 0) 0 (Refused (refusal 11))
-    ∷ sums (fed 0) 1 Taken
-    ∷ sums (fed 0) 2 (Refused (refusal 11))
+    ∷ sums (with_ramp false 1 idle) 0 (Err (refusal UnsoundBoard))
+    ∷ sums idle 0 (Err (refusal NoRamp))
+    ∷ sums (fed 0) 0 (Err (refusal SumsLength))
+    ∷ sums (fed 0) 1 (Ok tt)
+    ∷ sums (fed 0) 2 (Err (refusal SumsLength))
     ∷ []
 
 -- every row follows from the definitions

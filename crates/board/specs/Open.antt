@@ -1,14 +1,13 @@
 -- Open.
 use Rattle.std.specs.Prelude.{ℕ, Bool, false, not, List, [], ◌∷◌}
-use Rattle.checks.specs.declared.Answer.{Answer}
-use Rattle.checks.specs.Checks.{when, verdict}
+use Rattle.checks.specs.declared.Reason.TheVariants.{BadSides}
+use Rattle.checks.specs.Checks.{Answer, when, verdict}
 use Rattle.board.specs.declared.Board.{Board}
-use Rattle.board.specs.declared.Outcome.{Outcome}
-use Rattle.board.specs.Board.{sides_taken, opened, leaves}
+use Rattle.board.specs.Board.{Outcome, sides_taken, opened, leaves}
 
 -- 1: a side of 0, a side above 1,024, or an odd side of a binned board
 abbrev pub open_checks : ℕ → ℕ → Bool → List Answer
-open_checks width height binned = when (not (sides_taken width height binned)) 1 ∷ []
+open_checks width height binned = when (not (sides_taken width height binned)) BadSides ∷ []
 
 -- what stands for the board after a refusal: its sides are 0, so it isn't sound
 abbrev pub no_board : Board

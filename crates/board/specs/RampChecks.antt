@@ -1,10 +1,10 @@
 -- What Feed and Read out begin with.
 use Rattle.std.specs.Prelude.{ℕ, not, List, [], ◌∷◌, eqb}
-use Rattle.checks.specs.declared.Answer.{Answer}
-use Rattle.checks.specs.Checks.{when}
+use Rattle.checks.specs.declared.Reason.TheVariants.{NoRamp, SumsLength}
+use Rattle.checks.specs.Checks.{Answer, when}
 use Rattle.board.specs.declared.Board.{Board}
 use Rattle.board.specs.Board.{area, unsound}
 
 -- 99, then 10: no ramp is running. 11: there isn't one sum for each pixel
 abbrev pub ramp_checks : Board → ℕ → List Answer
-ramp_checks b sumsLength = unsound b ∷ when (not b.running) 10 ∷ when (not (eqb sumsLength (area b))) 11 ∷ []
+ramp_checks b sumsLength = unsound b ∷ when (not b.running) NoRamp ∷ when (not (eqb sumsLength (area b))) SumsLength ∷ []

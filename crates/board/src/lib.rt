@@ -1,37 +1,21 @@
 // A ramp board: its sides, its settings and the ramp that runs.
 #![tactic(auto)]
 
-use checks::{Answer, Refusal};
 use settings::Settings;
+use sides::Sides;
 
-pub mod changes;
+mod changes;
 mod open;
 mod sound;
 
-#[derive(Clone, Copy)]
+#[derive(Clone, Copy, Debug, PartialEq, Eq)]
 pub struct Board {
-    pub width: usize,
-    pub height: usize,
-    pub binned: bool,
+    pub sides: Sides,
     // what updates change
     pub waiting: Settings,
     // what a ramp runs by: Start copies them from the waiting ones
     pub in_force: Settings,
+    // whether a ramp runs, beside how many readings it was fed: a board that isn't sound can have some while none runs
     pub running: bool,
     pub fed: usize,
-}
-
-// What an operation answers, with the board as it leaves it.
-#[derive(Clone, Copy)]
-pub struct Outcome {
-    pub answer: Answer,
-    pub board: Board,
-}
-
-// What Covered says of the settings in force.
-#[derive(Clone, Copy)]
-pub enum Coverage {
-    Covered,
-    Uncovered,
-    Refused(Refusal),
 }

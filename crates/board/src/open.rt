@@ -1,24 +1,22 @@
 // Open.
 ghost use Rattle.std.specs.Prelude.{◌≡◌};
+ghost use Rattle.checks.specs.Checks.{or_refused};
 ghost use Rattle.board.specs.Board as Def;
 ghost use Rattle.board.specs.Open.{open_of};
 
-use crate::changes::leaves;
-use crate::{Board, Outcome};
-use checks::Answer;
+use crate::Board;
+use checks::{Reason, Refusal, refuse_when};
 use settings::Settings;
-use sides::sides_taken;
+use sides::Sides;
 
 impl Board {
     // A board that was just opened.
-    fn opened(width: usize, height: usize, binned: bool) -> Board
-        ensures { result ≡ Def.opened width height binned }
+    fn opened(sides: Sides) -> Board
+        ensures { result ≡ Def.opened sides.width sides.height sides.binned }
     {
         let defaults = Settings::defaults();
         Board {
-            width: width,
-            height: height,
-            binned: binned,
+            sides,
             waiting: defaults,
             in_force: defaults,
             running: false,
@@ -26,15 +24,12 @@ impl Board {
         }
     }
 
-    // Open: a board with the default settings, or a refusal and a board that isn't sound.
-    pub fn open(width: usize, height: usize, binned: bool) -> Outcome
-        ensures { result ≡ open_of width height binned }
+    // Open: a board with the default settings, or a refusal.
+    #[tactic(auto, unfolding(crate::specs::Open::open_of, checks::specs::Checks::verdict))]
+    pub fn open(sides: Sides) -> Result<Board, Refusal>
+        ensures { let opening = open_of sides.width sides.height sides.binned in result ≡ or_refused opening.answer opening.board }
     {
-        let answer = Answer::when(!sides_taken(width, height, binned), checks::SIDES);
-        leaves(
-            answer,
-            Board::opened(width, height, binned),
-            Board::opened(0, 0, false),
-        )
+        refuse_when(!sides.are_taken(), Reason::BadSides)?;
+        Ok(Board::opened(sides))
     }
 }

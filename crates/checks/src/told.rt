@@ -10,13 +10,13 @@ pub fn told(answer: Answer, place: &mut usize) -> u8
     ensures place { place.new ≡ refusal_place answer }
 {
     match answer {
-        Answer::Taken => {
+        Ok(()) => {
             *place = 0;
             0
         }
-        Answer::Refused(r) => {
-            *place = r.place;
-            r.number
+        Err(refusal) => {
+            *place = refusal.place;
+            refusal.reason.number()
         }
     }
 }

@@ -1,11 +1,11 @@
 -- The ranges of a command's numbers, as far as their types don't say them.
 use Rattle.std.specs.Prelude.{◌≤◌}
 use Rattle.commands.specs.declared.Command.{Command}
-use Rattle.commands.specs.declared.Command.TheVariants.{Open, Update, Start, Feed, ReadOut, Drop, Covered, Word, Sums, Poke, Swap, PrintSums, Words, Nearest, Count, Nothing, Malformed}
+use Rattle.commands.specs.declared.Command.TheVariants.{Open, Update, Start, Feed, ReadOut, Drop, Covered, Word, Sums, Poke, Swap, PrintSums, Words, Nearest, Count}
 
 -- sides of a board up to 65,535; lists, lengths and outputs up to 4,096; an r up to 255; the index of an entry up to 4,095
 abbrev pub InRange : Command → Type 0
-InRange (Open width height binned) = (width ≤ 65535) × (height ≤ 65535)
+InRange (Open sides) = (sides.width ≤ 65535) × (sides.height ≤ 65535)
 InRange (Update count) = count ≤ 4096
 InRange Start = Unit {0}
 InRange (Feed count same) = count ≤ 4096
@@ -18,7 +18,5 @@ InRange (Poke index entry) = index ≤ 4095
 InRange Swap = Unit {0}
 InRange (PrintSums start count) = (start ≤ 4096) × (count ≤ 4096)
 InRange (Words count) = count ≤ 4096
-InRange (Nearest width height row column) = Unit {0}
-InRange (Count width height row column lastRow lastColumn) = Unit {0}
-InRange Nothing = Unit {0}
-InRange Malformed = Unit {0}
+InRange (Nearest width height place) = Unit {0}
+InRange (Count width height first last) = Unit {0}

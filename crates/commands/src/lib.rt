@@ -1,18 +1,18 @@
 // The commands of a script, each with its numbers. The bytes of an update, the readings of a feed and the words stay in the list.
 #![tactic(auto)]
 
+ghost use Rattle.std.specs.Prelude.{◌≡◌, ◌≤◌, IfOk};
+ghost use Rattle.items.specs.Items.{natural_of, entry_of};
 ghost use Rattle.commands.specs.Ranges.{InRange};
 
-use check::same;
-use items::{MOST, Numbers, entry, item, natural};
+use items::MOST;
+use places::Place;
+use sides::Sides;
+use std::num::TryFromIntError;
 
-#[derive(Clone, Copy)]
+#[derive(Clone, Copy, Debug, PartialEq, Eq)]
 pub enum Command {
-    Open {
-        width: usize,
-        height: usize,
-        binned: bool,
-    },
+    Open(Sides),
     Update(usize),
     Start,
     Feed {
@@ -43,295 +43,123 @@ pub enum Command {
     Nearest {
         width: usize,
         height: usize,
-        row: usize,
-        column: usize,
+        place: Place,
     },
     Count {
         width: usize,
         height: usize,
-        row: usize,
-        column: usize,
-        last_row: usize,
-        last_column: usize,
+        first: Place,
+        last: Place,
     },
-    Nothing,
-    Malformed,
+}
+
+// A line that says no command.
+#[derive(Clone, Copy, Debug, PartialEq, Eq)]
+pub struct Malformed;
+
+impl From<TryFromIntError> for Malformed {
+    fn from(_error: TryFromIntError) -> Malformed {
+        Malformed
+    }
 }
 
 // The largest number of ten digits.
 const LARGEST: usize = 9999999999;
 
-// Whether the numbers from a place on, of the first `count`, go up to the highest.
-fn all_up_to(list: &Numbers, from: usize, count: usize, highest: usize) -> bool {
-    let mut i = from;
-    while i < count {
-        if natural(item(list, i)) > highest {
-            return false;
-        }
-        i += 1;
-    }
-    true
-}
-
-// A count, then that many items up to the highest.
-fn is_list(list: &Numbers, count: usize, highest: usize) -> bool {
-    if count == 0 {
-        false
-    } else {
-        (natural(list[0]) == count - 1) & all_up_to(list, 1, count, highest)
-    }
-}
-
-fn is_entry(n: i64) -> bool {
-    (-2147483648 <= n) & (n <= 2147483647)
-}
-
-fn update(list: &Numbers, count: usize) -> Command
-    ensures { InRange result }
+// A number with no sign, up to the highest.
+fn up_to(n: i64, highest: usize) -> Result<usize, Malformed>
+    ensures number { IfOk result (λ m. m ≡ natural_of n) }
+    ensures bound { IfOk result (λ m. m ≤ highest) }
 {
-    let bytes = natural(list[0]);
-    if bytes > MOST {
-        Command::Malformed
-    } else if is_list(list, count, 255) {
-        Command::Update(bytes)
+    let m = usize::try_from(n)?;
+    if m <= highest { Ok(m) } else { Err(Malformed) }
+}
+
+// A number of 32 bits with a sign.
+fn entry(n: i64) -> Result<i32, Malformed>
+    ensures { IfOk result (λ e. e ≡ entry_of n) }
+{
+    Ok(i32::try_from(n)?)
+}
+
+// A place of a frame, by its row and its column.
+fn place(row: i64, column: i64) -> Result<Place, Malformed> {
+    Ok(Place {
+        row: up_to(row, LARGEST)?,
+        column: up_to(column, LARGEST)?,
+    })
+}
+
+// How many items there are, if it is as many as their count says, and each is in the range of a type.
+fn counted<T: TryFrom<i64, Error = TryFromIntError> + Drop>(
+    count: i64,
+    items: &[i64],
+) -> Result<usize, Malformed>
+    ensures { IfOk result (λ m. m ≤ 4096) }
+{
+    let m = up_to(count, MOST)?;
+    if m == items.len() && items.iter().all(|n| T::try_from(*n).is_ok()) {
+        Ok(m)
     } else {
-        Command::Malformed
+        Err(Malformed)
     }
 }
 
-fn feed(list: &Numbers, count: usize) -> Command
-    ensures { InRange result }
+// The command of a word that takes the numbers of a list.
+pub fn named(word: &[u8], list: &[i64]) -> Result<Command, Malformed>
+    ensures { IfOk result InRange }
 {
-    let readings = natural(list[0]);
-    if readings > MOST {
-        Command::Malformed
-    } else if is_list(list, count, 65535) {
-        Command::Feed {
-            count: readings,
+    match (word, list) {
+        (b"open", [width, height, binned]) => Ok(Command::Open(Sides {
+            width: usize::from(u16::try_from(*width)?),
+            height: usize::from(u16::try_from(*height)?),
+            binned: up_to(*binned, 1)? == 1,
+        })),
+        (b"update", [count, bytes @ ..]) => Ok(Command::Update(counted::<u8>(*count, bytes)?)),
+        (b"start", []) => Ok(Command::Start),
+        (b"feed", [count, readings @ ..]) => Ok(Command::Feed {
+            count: counted::<u16>(*count, readings)?,
             same: false,
+        }),
+        (b"fill", [count, reading]) => {
+            u16::try_from(*reading)?;
+            Ok(Command::Feed {
+                count: up_to(*count, MOST)?,
+                same: true,
+            })
         }
-    } else {
-        Command::Malformed
-    }
-}
-
-fn words(list: &Numbers, count: usize) -> Command
-    ensures { InRange result }
-{
-    let words = natural(list[0]);
-    if words > MOST {
-        Command::Malformed
-    } else if is_list(list, count, 65535) {
-        Command::Words(words)
-    } else {
-        Command::Malformed
-    }
-}
-
-fn fill(count: usize, reading: usize) -> Command
-    ensures { InRange result }
-{
-    if count > MOST {
-        Command::Malformed
-    } else if reading > 65535 {
-        Command::Malformed
-    } else {
-        Command::Feed {
-            count: count,
-            same: true,
-        }
-    }
-}
-
-fn read_word(word: usize, truncation: usize) -> Command
-    ensures { InRange result }
-{
-    if word > 65535 {
-        Command::Malformed
-    } else if truncation > 255 {
-        Command::Malformed
-    } else {
-        Command::Word {
-            word: word as u16,
-            truncation: truncation as u16,
-        }
-    }
-}
-
-fn sums(length: usize, value: i64) -> Command
-    ensures { InRange result }
-{
-    if length > MOST {
-        Command::Malformed
-    } else if is_entry(value) {
-        Command::Sums {
-            length: length,
-            entry: entry(value),
-        }
-    } else {
-        Command::Malformed
-    }
-}
-
-fn poke(index: usize, value: i64) -> Command
-    ensures { InRange result }
-{
-    if index >= MOST {
-        Command::Malformed
-    } else if is_entry(value) {
-        Command::Poke {
-            index: index,
-            entry: entry(value),
-        }
-    } else {
-        Command::Malformed
-    }
-}
-
-fn print_sums(start: usize, count: usize) -> Command
-    ensures { InRange result }
-{
-    if start > MOST {
-        Command::Malformed
-    } else if count > MOST {
-        Command::Malformed
-    } else {
-        Command::PrintSums {
-            start: start,
-            count: count,
-        }
-    }
-}
-
-// The commands that take no number.
-fn with_none(word: &[u8]) -> Command
-    ensures { InRange result }
-{
-    if same(word, b"start") {
-        Command::Start
-    } else if same(word, b"drop") {
-        Command::Drop
-    } else if same(word, b"covered") {
-        Command::Covered
-    } else if same(word, b"swap") {
-        Command::Swap
-    } else {
-        Command::Malformed
-    }
-}
-
-// The command that takes one number.
-fn with_one(word: &[u8], output: usize) -> Command
-    ensures { InRange result }
-{
-    if output > MOST {
-        Command::Malformed
-    } else if same(word, b"readout") {
-        Command::ReadOut(output)
-    } else {
-        Command::Malformed
-    }
-}
-
-// The commands that take two numbers.
-fn with_two(word: &[u8], first: usize, second: i64) -> Command
-    ensures { InRange result }
-{
-    if same(word, b"fill") {
-        fill(first, natural(second))
-    } else if same(word, b"word") {
-        read_word(first, natural(second))
-    } else if same(word, b"sums") {
-        sums(first, second)
-    } else if same(word, b"poke") {
-        poke(first, second)
-    } else if same(word, b"print sums") {
-        print_sums(first, natural(second))
-    } else {
-        Command::Malformed
-    }
-}
-
-// The command that takes three numbers.
-fn with_three(word: &[u8], width: usize, height: usize, binned: usize) -> Command
-    ensures { InRange result }
-{
-    if width > 65535 {
-        Command::Malformed
-    } else if height > 65535 {
-        Command::Malformed
-    } else if (binned <= 1) & same(word, b"open") {
-        Command::Open {
-            width: width,
-            height: height,
-            binned: binned == 1,
-        }
-    } else {
-        Command::Malformed
-    }
-}
-
-// The command that takes four numbers, any with no sign.
-fn with_four(word: &[u8], list: &Numbers) -> Command
-    ensures { InRange result }
-{
-    if all_up_to(list, 0, 4, LARGEST) & same(word, b"nearest") {
-        Command::Nearest {
-            width: natural(list[0]),
-            height: natural(list[1]),
-            row: natural(list[2]),
-            column: natural(list[3]),
-        }
-    } else {
-        Command::Malformed
-    }
-}
-
-// The command that takes six numbers, any with no sign.
-fn with_six(word: &[u8], list: &Numbers) -> Command
-    ensures { InRange result }
-{
-    if all_up_to(list, 0, 6, LARGEST) & same(word, b"count") {
-        Command::Count {
-            width: natural(list[0]),
-            height: natural(list[1]),
-            row: natural(list[2]),
-            column: natural(list[3]),
-            last_row: natural(list[4]),
-            last_column: natural(list[5]),
-        }
-    } else {
-        Command::Malformed
-    }
-}
-
-// The command of a word that takes as many numbers as there are.
-fn with_some(word: &[u8], list: &Numbers, count: usize) -> Command
-    ensures { InRange result }
-{
-    let first = natural(list[0]);
-    match count {
-        0 => with_none(word),
-        1 => with_one(word, first),
-        2 => with_two(word, first, list[1]),
-        3 => with_three(word, first, natural(list[1]), natural(list[2])),
-        4 => with_four(word, list),
-        6 => with_six(word, list),
-        _ => Command::Malformed,
-    }
-}
-
-// The command of a word that takes the first `count` numbers of the list.
-pub fn named(word: &[u8], list: &Numbers, count: usize) -> Command
-    ensures { InRange result }
-{
-    if same(word, b"update") {
-        update(list, count)
-    } else if same(word, b"feed") {
-        feed(list, count)
-    } else if same(word, b"words") {
-        words(list, count)
-    } else {
-        with_some(word, list, count)
+        (b"readout", [count]) => Ok(Command::ReadOut(up_to(*count, MOST)?)),
+        (b"drop", []) => Ok(Command::Drop),
+        (b"covered", []) => Ok(Command::Covered),
+        (b"word", [word, truncation]) => Ok(Command::Word {
+            word: u16::try_from(*word)?,
+            truncation: u16::from(u8::try_from(*truncation)?),
+        }),
+        (b"sums", [length, value]) => Ok(Command::Sums {
+            length: up_to(*length, MOST)?,
+            entry: entry(*value)?,
+        }),
+        (b"poke", [index, value]) => Ok(Command::Poke {
+            index: up_to(*index, MOST - 1)?,
+            entry: entry(*value)?,
+        }),
+        (b"swap", []) => Ok(Command::Swap),
+        (b"print sums", [start, count]) => Ok(Command::PrintSums {
+            start: up_to(*start, MOST)?,
+            count: up_to(*count, MOST)?,
+        }),
+        (b"words", [count, words @ ..]) => Ok(Command::Words(counted::<u16>(*count, words)?)),
+        (b"nearest", [width, height, row, column]) => Ok(Command::Nearest {
+            width: up_to(*width, LARGEST)?,
+            height: up_to(*height, LARGEST)?,
+            place: place(*row, *column)?,
+        }),
+        (b"count", [width, height, row, column, last_row, last_column]) => Ok(Command::Count {
+            width: up_to(*width, LARGEST)?,
+            height: up_to(*height, LARGEST)?,
+            first: place(*row, *column)?,
+            last: place(*last_row, *last_column)?,
+        }),
+        _ => Err(Malformed),
     }
 }

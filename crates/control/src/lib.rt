@@ -6,59 +6,51 @@ ghost use Rattle.operations.specs.Update.{update_of};
 ghost use Rattle.operations.specs.Ramp.{start_of, drop_of};
 ghost use Rattle.operations.specs.Covered.{coverage_of};
 
-use board::changes::leaves;
-use board::{Board, Coverage, Outcome};
-use checks::{Answer, Refusal};
+use board::Board;
+use checks::{Answer, Reason, Refusal, refuse_when};
 
 // Update: the record's fields go into the waiting settings.
-pub fn update(board: Board, bytes: &[u8]) -> Outcome
-    ensures { result ≡ update_of board bytes.now }
+#[tactic(auto, unfolding(operations::specs::Update::update_of, update::specs::Update::update_of, checks::specs::Checks::verdict))]
+pub fn update(board: &mut Board, bytes: &[u8]) -> Answer
+    ensures answer { result ≡ (update_of board.old bytes.now).answer }
+    ensures board { board.new ≡ (update_of board.old bytes.now).board }
 {
-    let waiting = board.waiting;
-    let u = update::update(waiting, bytes);
-    let record = u.answer;
-    let settings = u.settings;
-    let mut new = board;
-    new.waiting = settings;
-    leaves(board.check_sound().then(record), new, board)
+    board.check_sound()?; // 99 before 2 to 8
+    board.waiting = update::update(board.waiting, bytes)?;
+    Ok(())
 }
 
 // Start: the waiting settings are in force, and a ramp begins.
-pub fn start(board: Board) -> Outcome
-    ensures { result ≡ start_of board }
+#[tactic(auto, unfolding(operations::specs::Ramp::start_of, checks::specs::Checks::verdict))]
+pub fn start(board: &mut Board) -> Answer
+    ensures answer { result ≡ (start_of board.old).answer }
+    ensures board { board.new ≡ (start_of board.old).board }
 {
-    let running = Answer::when(board.running, checks::RAMP_RUNNING);
-    let waiting = board.waiting;
-    let mut new = board;
-    new.in_force = waiting;
-    new.running = true;
-    new.fed = 0;
-    leaves(board.check_sound().then(running), new, board)
+    board.check_sound()?; // 99 before 9
+    refuse_when(board.running, Reason::RampRunning)?;
+    board.in_force = board.waiting;
+    board.running = true;
+    board.fed = 0;
+    Ok(())
 }
 
 // Drop: the ramp ends with no frame.
-pub fn drop(board: Board) -> Outcome
-    ensures { result ≡ drop_of board }
+#[tactic(auto, unfolding(operations::specs::Ramp::drop_of, checks::specs::Checks::verdict))]
+pub fn drop(board: &mut Board) -> Answer
+    ensures answer { result ≡ (drop_of board.old).answer }
+    ensures board { board.new ≡ (drop_of board.old).board }
 {
-    let idle = Answer::when(!board.running, checks::NO_RAMP);
-    leaves(board.check_sound().then(idle), board.ended(), board)
+    board.check_sound()?; // 99 before 10
+    refuse_when(!board.running, Reason::NoRamp)?;
+    *board = board.ended();
+    Ok(())
 }
 
 // Covered: whether the settings in force are covered.
-pub fn covered(board: Board) -> Coverage
+#[tactic(auto, unfolding(operations::specs::Covered::coverage_of, checks::specs::Checks::verdict))]
+pub fn covered(board: Board) -> Result<bool, Refusal>
     ensures { result ≡ coverage_of board }
 {
-    let settings = board.in_force;
-    if board.sound() {
-        if settings.is_covered() {
-            Coverage::Covered
-        } else {
-            Coverage::Uncovered
-        }
-    } else {
-        Coverage::Refused(Refusal {
-            number: checks::UNSOUND_BOARD,
-            place: 0,
-        })
-    }
+    board.check_sound()?; // 99 alone
+    Ok(board.in_force.is_covered())
 }

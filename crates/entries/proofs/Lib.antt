@@ -1,5 +1,6 @@
 -- The laws of entries.
 pub mod Marks
+pub mod Wraps
 pub mod Wrapped
 pub mod Possible
 pub mod Range

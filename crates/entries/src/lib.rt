@@ -6,8 +6,6 @@ ghost use Rattle.settings.specs.Settings.{max_samples};
 ghost use Rattle.entries.specs.Mark.{marked};
 ghost use Rattle.entries.specs.Possible.{possible_after};
 
-use numbers::wrapping_add;
-
 // The mark of sample n is this and n more.
 pub const MARK: i32 = 1073741824;
 
@@ -23,7 +21,7 @@ pub fn lowered(entry: i32, gap: i32) -> i32
 }
 
 // Whether an entry is possible after k samples. With the mark of sample k moved down to the highest sum, one range holds sums and marks; with the
-// lowest sum moved to the lowest number, one test tells the range.
+// lowest sum moved to the lowest number, one test tells the range. k is N, or a count of samples, as each caller has it at hand: its bound stands in each contract.
 pub fn is_possible(entry: i32, k: usize) -> bool
     requires { k ≤ max_samples }
     ensures { result ≡ possible_after k entry }
@@ -31,6 +29,6 @@ pub fn is_possible(entry: i32, k: usize) -> bool
     let samples = k as i32;
     let span = samples * MAX_PRODUCT;
     let moved = lowered(entry, MARK + samples - (128 + span));
-    let lowest = wrapping_add(i32::MIN, span - 128);
-    wrapping_add(moved, lowest) <= i32::MIN + 2 * span
+    let lowest = i32::MIN.wrapping_add(span - 128);
+    moved.wrapping_add(lowest) <= i32::MIN + 2 * span
 }

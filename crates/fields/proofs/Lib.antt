@@ -1,3 +1,4 @@
 -- The refusals of the fields.
+pub mod Bad
 pub mod Laws
 pub mod Known

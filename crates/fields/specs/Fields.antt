@@ -1,9 +1,8 @@
 -- The fields of a record: the check of each, and the settings with each of them written.
-use Rattle.std.specs.Prelude.{ℕ, zero, suc, cond, not, List, ltb, set}
+use Rattle.std.specs.Prelude.{ℕ, zero, suc, cond, not, List, ltb, set, Ok}
 use Rattle.laws.specs.Lists.{each}
-use Rattle.checks.specs.declared.Answer.{Answer}
-use Rattle.checks.specs.declared.Answer.TheVariants.{Taken}
-use Rattle.checks.specs.Checks.{when}
+use Rattle.checks.specs.declared.Reason.TheVariants.{WeightRange, ThresholdRange, TruncationRange, SamplesRange}
+use Rattle.checks.specs.Checks.{Answer, when}
 use Rattle.record.specs.declared.Field.{Field}
 use Rattle.record.specs.declared.Field.TheVariants.{Weight, Threshold, Truncation, Samples}
 use Rattle.record.specs.Record.{stands, map_of, field_count, field_of, number_of, weight_of}
@@ -12,14 +11,14 @@ use Rattle.settings.specs.Settings.{threshold_in_range, truncation_in_range, sam
 
 -- 5: a weight byte above 31. 6: a threshold above 16,383. 7: an r outside 1 to 3. 8: an N outside 1 to 9
 abbrev pub check_of : Field → ℕ → Answer
-check_of (Weight i) v = when (ltb 31 v) 5
-check_of Threshold v = when (not (threshold_in_range v)) 6
-check_of Truncation v = when (not (truncation_in_range v)) 7
-check_of Samples v = when (not (samples_in_range v)) 8
+check_of (Weight i) v = when (ltb 31 v) WeightRange
+check_of Threshold v = when (not (threshold_in_range v)) ThresholdRange
+check_of Truncation v = when (not (truncation_in_range v)) TruncationRange
+check_of Samples v = when (not (samples_in_range v)) SamplesRange
 
 -- the check of a bit's field, if the bit stands
 abbrev pub field_check : List ℕ → ℕ → Answer
-field_check bytes bit = cond (stands (map_of bytes) bit) (check_of (field_of bit) (number_of bytes bit)) Taken
+field_check bytes bit = cond (stands (map_of bytes) bit) (check_of (field_of bit) (number_of bytes bit)) (Ok tt)
 
 -- the checks of a record's fields, from the lowest bit up
 abbrev pub field_checks : List ℕ → List Answer

@@ -3,28 +3,41 @@
 --     before_box      none before its first row
 --     one_row         one row more
 --     after_box       none after its last row
+--     many_count      the flags of some words, counted word by word
 --     row_more, rows_done     a turn of the loop, and its end
-use Prim.Native.Nat.{ℕ, ◌+◌, ◌-◌, ◌*◌, ◌/◌, ◌≤◌, ◌<◌}
-use mathlib.Core.Bool.{Bool, false, ◌&&◌}
+use Prim.Native.Nat.{ℕ, zero, suc, ◌+◌, ◌-◌, ◌*◌, ◌/◌, ◌≤◌, ◌<◌}
+use mathlib.Core.Bool.{Bool, false, cond, ◌&&◌}
 use mathlib.Core.List.{List}
-use mathlib.Core.Path.{◌≡◌, sym, ap, subst, ◌∙◌}
+use mathlib.Core.Path.{◌≡◌, refl, sym, ap, subst, ◌∙◌}
 use native.Mathlib.Nat.{div-lt_iff_lt-mul, mul-le-mul_right, suc-mul, add-mul, one-mul}
+use native.Mathlib.Numerals.{add-one}
 use native.Mathlib.Omega.{arith}
 use borrow.Author.Tests.{ltb-true, ltb-false, le-leb, lt-leb}
 use lib.Dec.{ltb, leb}
 use lib.ListN.{length, take, drop}
+use lib.Seq.{take-length}
+use Rattle.std.specs.Prelude.{count_by}
+use Rattle.std.proofs.lemmas.List.Sums.{sum_by_more}
 use Rattle.laws.proofs.Numbers.{quotient, rest}
 use Rattle.laws.proofs.Parts.{part_length, part_at}
 use Rattle.laws.proofs.Tests.{cases, and_right, and_false}
+use Rattle.meaning.specs.Meaning.{is_flag}
 use Rattle.places.specs.declared.Place.{Place}
 use Rattle.places.specs.Places.{place_of, flag_at}
 use Rattle.places.specs.Counting.{how_many, in_box, flag_within}
-use Rattle.places.proofs.Counts.{many_none, many_same, many_append, many_within}
+use Rattle.places.proofs.Counts.{many_few, many_none, many_same, many_append, many_within}
 use Rattle.flag_boxes.specs.Requires.{Boxed}
 
--- the words from one index to another
-abbrev pub part : List ℕ → ℕ → ℕ → List ℕ
-part words from to = take (to - from) (drop from words)
+-- the flags among the first n words
+count_first : (words : List ℕ) (n : ℕ) → n ≤ length words → how_many n (flag_at words) ≡ count_by is_flag (take n words)
+unfolding how_many
+count_first words zero h = refl
+count_first words (suc n) h =
+    let m = sum_by_more (λ (w : ℕ). cond (is_flag w) 1 0) words n 0 (omega arith) in
+    rw (count_first words n (omega arith)) (sym (rw add-one at m))
+
+many_count : (words : List ℕ) → how_many (length words) (flag_at words) ≡ count_by is_flag words
+many_count words = rw take-length at (count_first words (length words) (omega arith))
 
 module _ (words : List ℕ) (width : ℕ) (first last : Place) (b : Boxed words width first last) where
   abbrev within : ℕ → Bool
@@ -86,22 +99,19 @@ module _ (words : List ℕ) (width : ℕ) (first last : Place) (b : Boxed words 
         (λ i h. rw (le-leb a (a + i) (omega arith), le-leb (a + i) last.column (omega (arith, b.columns)), part_at words (row * width + a) n i 0 h, and_right)
         (ap (flag_at words) (omega arith))))
 
-  -- the part of a row in the box has so many flags
-  in_part : (start from to k : ℕ) → start + width ≤ length words → from ≡ start + first.column → to ≡ start + last.column + 1
-      → k ≡ how_many (length (part words from to)) (flag_at (part words from to))
-      → k ≡ how_many (last.column + 1 - first.column) (flag_at (take (last.column + 1 - first.column) (drop (start + first.column) words)))
-  in_part start from to k room f t e =
-      let n : to - from ≡ last.column + 1 - first.column = omega (arith, b.columns) in
-      let l = part_length words (start + first.column) (last.column + 1 - first.column) (omega (arith, b.columns, b.across)) in
-      e ∙ rw (n, f, l)
+  pub row_more : (row n k from to : ℕ) → first.row ≤ row → row ≤ last.row → n ≡ how_many (row * width) within
+      → from ≡ row * width + first.column → to ≡ row * width + last.column + 1 → k ≡ count_by is_flag (take (to - from) (drop from words))
+      → n + k ≡ how_many ((row + 1) * width) within
+  row_more row n k from to low high e f g h =
+      let m = last.column + 1 - first.column in
+      let part = take m (drop (row * width + first.column) words) in
+      let wide : to - from ≡ m = omega (arith, b.columns) in
+      let len : length part ≡ m = part_length words (row * width + first.column) m (omega (arith, b.columns, b.across, row_room row high)) in
+      let counted = rw len at (many_count part) in
+      rw (add-mul row 1 width, one-mul width, one_row row low high, e, h, wide, f, counted)
 
-  pub row_more : (row start n k from to : ℕ) → first.row ≤ row → row ≤ last.row → start ≡ row * width → n ≡ how_many start within
-      → from ≡ start + first.column → to ≡ start + last.column + 1 → k ≡ how_many (length (part words from to)) (flag_at (part words from to))
-      → (start + width ≡ (row + 1) * width) × (n + k ≡ how_many (start + width) within)
-  row_more row start n k from to low high e f g h q =
-      let room : start + width ≤ length words = omega (arith, row_room row high) in
-      let counted = in_part start from to k room g h q in
-      (rw (e, add-mul row 1 width, one-mul width), rw (f, counted, e) (sym (one_row row low high)))
+  pub row_few : (row n : ℕ) → row ≤ last.row → n ≡ how_many ((row + 1) * width) within → n ≤ 1048576
+  row_few row n high e = omega (arith, many_few within ((row + 1) * width), row_room row high, add-mul row 1 width, one-mul width, b.few)
 
-  pub rows_done : (row start n : ℕ) → row ≡ last.row + 1 → start ≡ row * width → n ≡ how_many start within → n ≡ how_many (length words) within
-  rows_done row start n q e f = f ∙ rw (e, q, add-mul last.row 1 width, one-mul width) (sym after_box)
+  pub rows_done : (row n : ℕ) → row ≡ last.row + 1 → n ≡ how_many (row * width) within → n ≡ how_many (length words) within
+  rows_done row n q e = e ∙ rw (q, add-mul last.row 1 width, one-mul width) (sym after_box)

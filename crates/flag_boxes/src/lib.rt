@@ -1,42 +1,32 @@
 // The count of flags in a box.
 #![tactic(auto)]
 
-ghost use Rattle.std.specs.Prelude.{◌≡◌, ◌≤◌, length};
-ghost use Rattle.places.specs.Places.{flag_at};
+ghost use Rattle.std.specs.Prelude.{◌≡◌, ◌≤◌, length, count_by};
+ghost use Rattle.meaning.specs.Meaning.{is_flag};
 ghost use Rattle.places.specs.Counting.{how_many, flag_within};
 ghost use Rattle.flag_boxes.specs.Requires.{Boxed};
 
 use meaning::is_flag;
-use places::Place;
+use places::{Frame, Place};
 
-// How many words are flags.
+// How many words are flags. 16 bits hold that of a row, and more words are counted at once.
 fn count(words: &[u16]) -> u16
     requires { length words.now ≤ 1024 }
-    ensures { result ≡ how_many (length words.now) (flag_at words.now) }
+    ensures { result ≡ count_by is_flag words.now }
 {
-    let mut n: u16 = 0;
-    let mut i = 0;
-    while i < words.len() {
-        n += is_flag(words[i]) as u16;
-        i += 1;
-    }
-    n
+    words.iter().map(|w| u16::from(is_flag(*w))).sum()
 }
 
 // How many flags lie in a box, row by row.
-pub fn count_in_box(words: &[u16], width: usize, first: Place, last: Place) -> usize
-    requires { Boxed words.now width first last }
-    ensures { result ≡ how_many (length words.now) (flag_within words.now width first last) }
+pub fn count_in_box(frame: Frame, first: Place, last: Place) -> usize
+    requires { Boxed frame.words.now frame.width first last }
+    ensures { result ≡ how_many (length frame.entry.words.now) (flag_within frame.entry.words.now frame.entry.width first last) }
 {
-    let mut row = first.row;
-    let mut start = row * width;
     let mut n = 0;
-    while row <= last.row {
-        let from = start + first.column;
-        let to = start + last.column + 1;
-        n += count(&words[from..to]) as usize;
-        start += width;
-        row += 1;
+    for row in first.row..last.row + 1 {
+        let start = row * frame.width;
+        let part = &frame.words[start + first.column..=start + last.column];
+        n += usize::from(count(part));
     }
     n
 }

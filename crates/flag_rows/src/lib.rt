@@ -1,106 +1,90 @@
 // The nearest flag of one row.
 #![tactic(auto)]
 
-ghost use Rattle.std.specs.Prelude.{◌≡◌, true, not, ◌≤◌, ◌<◌, length};
-ghost use Rattle.laws.specs.Lists.{every};
+ghost use Rattle.std.specs.Prelude.{ℕ, ◌≡◌, true, false, not, ◌||◌, ◌≤◌, ◌<◌, length, fold};
 ghost use Rattle.meaning.specs.Meaning.{is_flag};
 ghost use Rattle.places.specs.Places.{flag_at, apart};
 ghost use Rattle.places.specs.Finding.{nearest_at};
 ghost use Rattle.flag_rows.specs.Clear.{ClearTo};
 
-use checks::Found;
 use meaning::is_flag;
-use numbers::{beyond, least};
 
-// Whether no word is a flag, with no early exit.
+// Whether no word is a flag. No early exit: so many words are asked at once.
 fn no_flag(words: &[u16]) -> bool
-    ensures { result ≡ every (λ w. not (is_flag w)) words.now }
+    ensures { result ≡ not (fold (λ any w. any || is_flag w) false words.now) }
 {
-    let mut any = false;
-    let mut i = 0;
-    while i < words.len() {
-        any = any | is_flag(words[i]);
-        i += 1;
+    !words.iter().fold(false, |any, w| any | is_flag(*w))
+}
+
+// A row that is searched for the nearest flag to one of its columns.
+#[derive(Clone, Copy)]
+struct RowSearch<'a> {
+    row: &'a [u16],
+    column: usize,
+    ghost inside: { (column < length row.now) × (length row.now ≤ 1024) },
+}
+
+impl RowSearch<'_> {
+    // Whether no flag lies from `near` to below `far` away from the column, on either side.
+    fn none_between(self, near: usize, far: usize) -> bool
+        requires { (near ≤ far) × (far ≤ 4096) }
+        ensures { result ≡ true → ClearTo self.entry.row.now self.entry.column near → ClearTo self.entry.row.now self.entry.column far }
+    {
+        let RowSearch { row, column, .. } = self;
+        let left_start = (column + 1).saturating_sub(far);
+        let left_end = (column + 1).saturating_sub(near);
+        let right_start = row.len().min(column + near);
+        let right_end = row.len().min(column + far);
+        no_flag(&row[left_start..left_end]) & no_flag(&row[right_start..right_end])
     }
-    !any
-}
 
-// Whether no flag lies from `near` to below `far` away from a column, on either side.
-fn none_between(row: &[u16], column: usize, near: usize, far: usize) -> bool
-    requires { (column < length row.now) × (length row.now ≤ 1024) × (near ≤ far) × (far ≤ 4096) }
-    ensures { result ≡ true → ClearTo row.now column near → ClearTo row.now column far }
-{
-    let left_start = beyond(column + 1, far);
-    let left_end = beyond(column + 1, near);
-    let right_start = least(column + near, row.len());
-    let right_end = least(column + far, row.len());
-    no_flag(&row[left_start..left_end]) & no_flag(&row[right_start..right_end])
-}
-
-// Where a part that begins `near` away from a column ends: 64 further, or twice as far and 64 more.
-fn part_end(near: usize, growing: bool) -> usize
-    requires { near ≤ 1024 }
-    ensures { (near < result) × (result ≤ 4096) }
-{
-    if growing { 2 * near + 64 } else { near + 64 }
-}
-
-// How far from a column a row has no flag, asked part by part from `near` on, up to a part that has one.
-fn clear_to(row: &[u16], column: usize, near: usize, growing: bool) -> usize
-    requires column_in_bounds { (column < length row.now) × (length row.now ≤ 1024) }
-    requires clear_to { ClearTo row.now column near }
-    ensures { ClearTo row.now column result }
-{
-    let mut clear = near;
-    while clear < row.len() {
-        let far = part_end(clear, growing);
-        if none_between(row, column, clear, far) {
+    // How far from the column the row has no flag, asked part by part from `near` on, up to a part that has one.
+    // A part that begins `n` away ends `part_end(n)` away.
+    fn clear_to<F: Fn(usize) -> usize>(self, near: usize, part_end: F) -> usize
+        requires clear_to { ClearTo self.row.now self.column near }
+        requires callable { (n : ℕ) → n ≤ 1024 → F.pre part_end n }
+        requires further { (n end : ℕ) → n ≤ 1024 → F.post part_end n end → (n < end) × (end ≤ 4096) }
+        ensures { ClearTo self.entry.row.now self.entry.column result }
+    {
+        let mut clear = near;
+        // No range has parts that grow.
+        while clear < self.row.len() {
+            let far = part_end(clear);
+            if !self.none_between(clear, far) {
+                break;
+            }
             clear = far;
-        } else {
-            return clear;
         }
+        clear
     }
-    clear
-}
 
-// Whether the word at a place is a flag; past the end there is none.
-fn flag_at(row: &[u16], i: usize) -> bool
-    ensures { result ≡ flag_at row.now i }
-{
-    if i < row.len() {
-        is_flag(row[i])
-    } else {
-        false
-    }
-}
-
-// The nearest flag to a column, where none is nearer than `near`: one step further each time, to the left and then to the right.
-fn outward(row: &[u16], column: usize, near: usize) -> Found
-    requires column_in_bounds { (column < length row.now) × (length row.now ≤ 1024) }
-    requires clear_to { ClearTo row.now column near }
-    ensures { result ≡ nearest_at (length row.now) (flag_at row.now) (apart column) }
-{
-    let mut away = near;
-    while away < row.len() {
-        let left = beyond(column, away);
-        let right = column + away;
-        if flag_at(row, left) {
-            return Found::At(left);
+    // The nearest flag, where none is nearer than `near`: one step further each time, to the left and then to the right.
+    fn outward(self, near: usize) -> Option<usize>
+        requires { ClearTo self.row.now self.column near }
+        ensures { result ≡ nearest_at (length self.entry.row.now) (flag_at self.entry.row.now) (apart self.entry.column) }
+    {
+        let RowSearch { row, column, .. } = self;
+        for away in near..row.len() {
+            let left = column.saturating_sub(away);
+            let right = column + away;
+            if is_flag(row[left]) {
+                return Some(left);
+            }
+            if right < row.len() && is_flag(row[right]) {
+                return Some(right);
+            }
         }
-        if flag_at(row, right) {
-            return Found::At(right);
-        }
-        away += 1;
+        None
     }
-    Found::Nothing
 }
 
 // The column of the nearest flag of a row, the left one of two: by parts that grow, then by short ones, then word by word.
-pub fn nearest_column(row: &[u16], column: usize) -> Found
+pub fn nearest_column(row: &[u16], column: usize) -> Option<usize>
     requires { (column < length row.now) × (length row.now ≤ 1024) }
     ensures { result ≡ nearest_at (length row.now) (flag_at row.now) (apart column) }
 {
-    let far = clear_to(row, column, 0, true);
-    let near = clear_to(row, column, far, false);
-    outward(row, column, near)
+    let search = RowSearch { row, column };
+    let far = search.clear_to(0, |near| 2 * near + 64);
+    let near = search.clear_to(far, |near| near + 64);
+    search.outward(near)
 }

@@ -4,8 +4,5 @@ use native.Mathlib.Nat.{mul-le-mul, suc-mul, mul-suc}
 use native.Mathlib.Omega.{arith}
 use Rattle.places.specs.Places.{square}
 
-pub square_most : {a b : ℕ} → a ≤ b → square a ≤ square b
-square_most h = mul-le-mul h h
-
 pub square_less : {a b : ℕ} → a < b → square a < square b
 square_less {a} {b} h = let l : suc a * suc a ≤ b * b = mul-le-mul h h in omega (arith, suc-mul a (suc a), mul-suc a a)

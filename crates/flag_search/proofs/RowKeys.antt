@@ -11,8 +11,7 @@ use lib.ListN.{take, drop}
 use Rattle.laws.proofs.Numbers.{quotient, rest}
 use Rattle.laws.proofs.Parts.{part_at}
 use Rattle.laws.proofs.Tests.{clash}
-use Rattle.checks.specs.declared.Found.{Found}
-use Rattle.checks.specs.declared.Found.TheVariants.{At, Nothing}
+use Rattle.std.specs.Prelude.{Option, Some, None}
 use Rattle.places.specs.declared.Place.{Place}
 use Rattle.places.specs.Places.{flag_at, apart, square}
 use Rattle.places.specs.Finding.{nearest_at, distance_from}
@@ -20,7 +19,7 @@ use Rattle.places.specs.Laws.{NotAfter}
 use Rattle.places.proofs.Flagged.{flag_below}
 use Rattle.places.proofs.Nearness.{Best, Says, nearest_says}
 use Rattle.flag_search.specs.Requires.{Searched}
-use Rattle.flag_search.specs.Keys.{Least, key_of, no_key}
+use Rattle.flag_search.specs.Keys.{Least, key_of}
 use Rattle.flag_search.proofs.Distances.{square_less}
 use Rattle.flag_search.proofs.Keyed.{key_order, row_column}
 
@@ -28,11 +27,11 @@ module _ (words : List ℕ) (width height : ℕ) (place : Place) (s : Searched w
   abbrev part : List ℕ
   part = take width (drop (row * width) words)
 
-  abbrev Found-is : Found → Type 0
+  abbrev Found-is : Option ℕ → Type 0
   Found-is x = nearest_at width (flag_at part) (apart place.column) ≡ x
 
-  says : (x : Found) → Found-is x → Says (flag_at part) (apart place.column) width x
-  says x e = subst (λ (y : Found). Says (flag_at part) (apart place.column) width y) e (nearest_says (flag_at part) (apart place.column) width)
+  says : (x : Option ℕ) → Found-is x → Says (flag_at part) (apart place.column) width x
+  says x e = subst (λ (y : Option ℕ). Says (flag_at part) (apart place.column) width y) e (nearest_says (flag_at part) (apart place.column) width)
 
   -- a word of the row, and of the frame
   same_word : (c : ℕ) → c < width → flag_at part c ≡ flag_at words (row * width + c)
@@ -49,9 +48,9 @@ module _ (words : List ℕ) (width height : ℕ) (place : Place) (s : Searched w
       let e : row * width + j % width ≡ j = rw (← q) (div-add-mod' j width) in
       subst P e (f (j % width) (row_column words width place height s j (flag_below words j t)).1 (rw e t))
 
-  module _ (column : ℕ) (e : Found-is (At column)) where
+  module _ (column : ℕ) (e : Found-is (Some column)) where
     abbrev best : Best (flag_at part) (apart place.column) width column
-    best = says (At column) e
+    best = says (Some column) e
 
     abbrev index : ℕ
     index = row * width + column
@@ -65,17 +64,17 @@ module _ (words : List ℕ) (width height : ℕ) (place : Place) (s : Searched w
     ordered c h (inl p) = rw (far column best.below, far c h) (inl (omega (arith, square_less p)))
     ordered c h (inr (p, q)) = rw (far column best.below, far c h) (inr (rw p refl, omega arith))
 
-    pub row_found : Least words width place (λ j. j / width ≡ row) ((square (apart place.row row) + square (apart place.column column)) * 1048576 + index)
+    pub row_found : Least words width place (λ j. j / width ≡ row) (Some ((square (apart place.row row) + square (apart place.column column)) * 1048576 + index))
     row_found =
         let few : index < 1048576 = omega (arith, flag_below words index flag_here, s.few) in
         let d = distance_from width place index in
         rw (← far column best.below)
         (record {
-          held = inr (rw (rest 1048576 d index few) (flag_here, refl));
+          held = rw (rest 1048576 d index few) (flag_here, refl);
           least = by_column (λ j. key_of width place index ≤ key_of width place j)
               (λ c h t. key_order d index (distance_from width place (row * width + c)) (row * width + c) few (omega (arith, flag_below words (row * width + c) t, s.few))
               (ordered c h (best.first c h (same_word c h ∙ t))));
         })
 
-  pub row_none : Found-is Nothing → Least words width place (λ j. j / width ≡ row) no_key
-  row_none e = record { held = inl refl; least = by_column (λ j. no_key ≤ key_of width place j) (λ c h t. clash (sym t ∙ sym (same_word c h) ∙ says Nothing e c h)) }
+  pub row_none : Found-is None → Least words width place (λ j. j / width ≡ row) None
+  row_none e = record { held = tt; least = by_column (λ j. ⊥) (λ c h t. clash (sym t ∙ sym (same_word c h) ∙ says None e c h)) }

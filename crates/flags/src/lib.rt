@@ -4,68 +4,76 @@
 ghost use Rattle.std.specs.Prelude.{◌≡◌};
 ghost use Rattle.checks.specs.Checks.{verdict};
 ghost use Rattle.places.specs.Places.{is_inside};
-ghost use Rattle.places.specs.Checks.{frame_checks, nearest_checks, count_checks};
+ghost use Rattle.places.specs.Checks.{frame_checks, nearest_checks, is_box, count_checks};
 ghost use Rattle.places.specs.Finding.{nearest_of};
 ghost use Rattle.places.specs.Counting.{count_of};
 
-use checks::Answer;
+use checks::{Answer, Reason, Refusal, refuse_when};
 use flag_boxes::count_in_box;
 use flag_search::search;
-use places::{Count, Nearest, Place};
-use sides::{area, sides_taken};
+use places::{Frame, Place};
+use sides::Sides;
 
-fn is_inside(width: usize, height: usize, place: Place) -> bool
-    ensures { result ≡ is_inside width height place }
+fn is_inside(frame: Frame, place: Place) -> bool
+    ensures { result ≡ is_inside frame.entry.width frame.entry.height place }
 {
-    (place.row < height) & (place.column < width)
+    place.row < frame.height && place.column < frame.width
 }
 
-// The checks of the frame, and then the last one. No product is formed of sides that aren't taken.
-fn check_frame(words: &[u16], width: usize, height: usize, last: Answer) -> Answer
-    ensures { result ≡ verdict (frame_checks words.now width height last) }
+// Whether two corners make a box of the frame.
+fn is_box(frame: Frame, first: Place, last: Place) -> bool
+    ensures { result ≡ is_box frame.entry.width frame.entry.height first last }
 {
-    let sides = Answer::when(!sides_taken(width, height, false), checks::OUTSIDE_FRAME);
-    let length = Answer::when(
-        words.len() != area(width, height, false),
-        checks::WORDS_LENGTH,
-    );
-    sides.then(length).then(last)
+    is_inside(frame, first)
+        && is_inside(frame, last)
+        && first.row <= last.row
+        && first.column <= last.column
 }
 
-fn check_nearest(words: &[u16], width: usize, height: usize, place: Place) -> Answer
-    ensures { result ≡ verdict (nearest_checks words.now width height place) }
+// The checks of the frame itself.
+#[tactic(auto, unfolding(checks::specs::Checks::verdict))]
+fn check_frame(frame: Frame) -> Answer
+    ensures { result ≡ verdict (frame_checks frame.entry.words.now frame.entry.width frame.entry.height (Ok tt)) }
 {
-    let outside = Answer::when(!is_inside(width, height, place), checks::OUTSIDE_FRAME);
-    check_frame(words, width, height, outside)
+    let sides = Sides {
+        width: frame.width,
+        height: frame.height,
+        binned: false,
+    };
+    refuse_when(!sides.are_taken(), Reason::OutsideFrame)?;
+    refuse_when(frame.words.len() != sides.area(), Reason::WordsLength)
 }
 
-fn check_count(words: &[u16], width: usize, height: usize, first: Place, last: Place) -> Answer
-    ensures { result ≡ verdict (count_checks words.now width height first last) }
+#[tactic(auto, using(crate::proofs::Checked::frame_last))]
+fn check_nearest(frame: Frame, place: Place) -> Answer
+    ensures { result ≡ verdict (nearest_checks frame.entry.words.now frame.entry.width frame.entry.height place) }
 {
-    let inside = is_inside(width, height, first) & is_inside(width, height, last);
-    let in_order = (first.row <= last.row) & (first.column <= last.column);
-    let no_box = Answer::when(!(inside & in_order), checks::OUTSIDE_FRAME);
-    check_frame(words, width, height, no_box)
+    check_frame(frame)?;
+    refuse_when(!is_inside(frame, place), Reason::OutsideFrame)
+}
+
+#[tactic(auto, using(crate::proofs::Checked::frame_last))]
+fn check_count(frame: Frame, first: Place, last: Place) -> Answer
+    ensures { result ≡ verdict (count_checks frame.entry.words.now frame.entry.width frame.entry.height first last) }
+{
+    check_frame(frame)?;
+    refuse_when(!is_box(frame, first, last), Reason::OutsideFrame)
 }
 
 // The nearest flagged place by squared distance, and the first in row order among equals.
-pub fn nearest_flag(words: &[u16], width: usize, height: usize, place: Place) -> Nearest
-    ensures { result ≡ nearest_of words.now width height place }
+#[tactic(auto, using(crate::proofs::Checked::searched), unfolding(places::specs::Finding::nearest_of))]
+pub fn nearest_flag(frame: Frame, place: Place) -> Result<Option<Place>, Refusal>
+    ensures { result ≡ nearest_of frame.entry.words.now frame.entry.width frame.entry.height place }
 {
-    let answer = check_nearest(words, width, height, place);
-    match answer {
-        Answer::Taken => search(words, width, height, place),
-        Answer::Refused(r) => Nearest::Refused(r),
-    }
+    check_nearest(frame, place)?;
+    Ok(search(frame, place))
 }
 
 // How many flags lie in the box from the first corner to the last, its edges counted in.
-pub fn count_flags(words: &[u16], width: usize, height: usize, first: Place, last: Place) -> Count
-    ensures { result ≡ count_of words.now width height first last }
+#[tactic(auto, using(crate::proofs::Checked::boxed), unfolding(places::specs::Counting::count_of))]
+pub fn count_flags(frame: Frame, first: Place, last: Place) -> Result<usize, Refusal>
+    ensures { result ≡ count_of frame.entry.words.now frame.entry.width frame.entry.height first last }
 {
-    let answer = check_count(words, width, height, first, last);
-    match answer {
-        Answer::Taken => Count::Flags(count_in_box(words, width, first, last)),
-        Answer::Refused(r) => Count::Refused(r),
-    }
+    check_count(frame, first, last)?;
+    Ok(count_in_box(frame, first, last))
 }

@@ -1,36 +1,30 @@
 -- The answers about flags as plain numbers, for C. What a refusal, or "no flag", doesn't tell is as it was.
-use Rattle.std.specs.Prelude.{ℕ}
-use Rattle.places.specs.declared.Nearest.{Nearest}
-use Rattle.places.specs.declared.Nearest.TheVariants.{At, NoFlag, Refused}
-use Rattle.places.specs.declared.Count.{Count}
-use Rattle.places.specs.declared.Count.TheVariants.{Flags}
+use Rattle.std.specs.Prelude.{ℕ, Option, Some, None, Result, Ok, Err}
+use Rattle.checks.specs.declared.Refusal.{Refusal}
+use Rattle.checks.specs.Told.{number}
+use Rattle.places.specs.declared.Place.{Place}
 
--- the refusal's number, 0 if there is none
-abbrev pub nearest_number : Nearest → ℕ
-nearest_number (At p) = 0
-nearest_number NoFlag = 0
-nearest_number (Refused r) = r.number
+-- the refusal's number, 0 if there is none: what `refusal_number` of `checks` is of an answer that holds nothing
+abbrev pub number_told : {A : Type 0} → Result A Refusal → ℕ
+number_told (Ok x) = 0
+number_told (Err r) = number r.reason
 
 -- 1 for a flag, 0 for "no flag"
-abbrev pub found_after : Nearest → ℕ → ℕ
-found_after (At p) old = 1
-found_after NoFlag old = 0
-found_after (Refused r) old = old
+abbrev pub found_after : Result (Option Place) Refusal → ℕ → ℕ
+found_after (Ok (Some p)) old = 1
+found_after (Ok None) old = 0
+found_after (Err r) old = old
 
-abbrev pub row_after : Nearest → ℕ → ℕ
-row_after (At p) old = p.row
-row_after NoFlag old = old
-row_after (Refused r) old = old
+abbrev pub row_after : Result (Option Place) Refusal → ℕ → ℕ
+row_after (Ok (Some p)) old = p.row
+row_after (Ok None) old = old
+row_after (Err r) old = old
 
-abbrev pub column_after : Nearest → ℕ → ℕ
-column_after (At p) old = p.column
-column_after NoFlag old = old
-column_after (Refused r) old = old
+abbrev pub column_after : Result (Option Place) Refusal → ℕ → ℕ
+column_after (Ok (Some p)) old = p.column
+column_after (Ok None) old = old
+column_after (Err r) old = old
 
-abbrev pub count_number : Count → ℕ
-count_number (Flags n) = 0
-count_number (Count.Refused r) = r.number
-
-abbrev pub flags_after : Count → ℕ → ℕ
-flags_after (Flags n) old = n
-flags_after (Count.Refused r) old = old
+abbrev pub flags_after : Result ℕ Refusal → ℕ → ℕ
+flags_after (Ok n) old = n
+flags_after (Err r) old = old

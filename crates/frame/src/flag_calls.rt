@@ -1,12 +1,13 @@
 // The nearest flag and the flags in a box, for C and Rust: a refusal's number, 0 if there is none. What a refusal doesn't tell is left as it was.
+// C knows no `Frame`, no `Place` and no `Option`: numbers come and go one by one.
 ghost use Rattle.std.specs.Prelude.{◌≡◌};
 ghost use Rattle.places.specs.Places.{place_at};
 ghost use Rattle.places.specs.Finding.{nearest_of};
 ghost use Rattle.places.specs.Counting.{count_of};
-ghost use Rattle.frame.specs.FlagAnswers.{nearest_number, found_after, row_after, column_after, count_number, flags_after};
+ghost use Rattle.frame.specs.FlagAnswers.{number_told, found_after, row_after, column_after, flags_after};
 
 use flags::{count_flags, nearest_flag};
-use places::{Count, Nearest, Place};
+use places::{Frame, Place};
 
 // The nearest flag: `found` is 1, and its row and column are told; or `found` is 0.
 #[unsafe(no_mangle)]
@@ -20,28 +21,28 @@ pub extern "C" fn ramp_nearest_flag(
     flag_row: &mut usize,
     flag_column: &mut usize,
 ) -> u8
-    ensures number { result ≡ nearest_number (nearest_of words.now width height (place_at row column)) }
+    ensures number { result ≡ number_told (nearest_of words.now width height (place_at row column)) }
     ensures found { found.new ≡ found_after (nearest_of words.now width height (place_at row column)) found.old }
     ensures row { flag_row.new ≡ row_after (nearest_of words.now width height (place_at row column)) flag_row.old }
     ensures column { flag_column.new ≡ column_after (nearest_of words.now width height (place_at row column)) flag_column.old }
 {
-    let place = Place {
-        row: row,
-        column: column,
+    let frame = Frame {
+        words,
+        width,
+        height,
     };
-    let nearest = nearest_flag(words, width, height, place);
-    match nearest {
-        Nearest::At(p) => {
+    match nearest_flag(frame, Place { row, column }) {
+        Ok(Some(place)) => {
             *found = 1;
-            *flag_row = p.row;
-            *flag_column = p.column;
+            *flag_row = place.row;
+            *flag_column = place.column;
             0
         }
-        Nearest::NoFlag => {
+        Ok(None) => {
             *found = 0;
             0
         }
-        Nearest::Refused(r) => r.number,
+        Err(refusal) => refusal.reason.number(),
     }
 }
 
@@ -57,9 +58,14 @@ pub extern "C" fn ramp_count_flags(
     last_column: usize,
     flags: &mut usize,
 ) -> u8
-    ensures number { result ≡ count_number (count_of words.now width height (place_at first_row first_column) (place_at last_row last_column)) }
+    ensures number { result ≡ number_told (count_of words.now width height (place_at first_row first_column) (place_at last_row last_column)) }
     ensures flags { flags.new ≡ flags_after (count_of words.now width height (place_at first_row first_column) (place_at last_row last_column)) flags.old }
 {
+    let frame = Frame {
+        words,
+        width,
+        height,
+    };
     let first = Place {
         row: first_row,
         column: first_column,
@@ -68,12 +74,11 @@ pub extern "C" fn ramp_count_flags(
         row: last_row,
         column: last_column,
     };
-    let count = count_flags(words, width, height, first, last);
-    match count {
-        Count::Flags(n) => {
-            *flags = n;
+    match count_flags(frame, first, last) {
+        Ok(count) => {
+            *flags = count;
             0
         }
-        Count::Refused(r) => r.number,
+        Err(refusal) => refusal.reason.number(),
     }
 }

@@ -1,4 +1,5 @@
 // What C and Rust call. A whole frame in one call, and Feed and Read out alone: a refusal's number, 0 if there is none, and its place.
+// C knows no `Sides` and no `Result`: numbers come and go one by one.
 #![tactic(auto)]
 
 ghost use Rattle.std.specs.Prelude.{◌≡◌};
@@ -7,6 +8,7 @@ ghost use Rattle.whole_frame.specs.Chain.{frame_answer, frame_sums, frame_words}
 ghost use Rattle.steps.specs.Steps.{feed_answer, feed_leaves, read_out_answer, read_out_leaves};
 
 use checks::told::told;
+use sides::Sides;
 use steps::{feed_of, read_out_of};
 use whole_frame::frame_of;
 
@@ -29,10 +31,12 @@ pub extern "C" fn ramp_frame(
     ensures sums { sums.new ≡ frame_sums width height binned «record».now readings.now sums.old words.old }
     ensures words { words.new ≡ frame_words width height binned «record».now readings.now sums.old words.old }
 {
-    told(
-        frame_of(width, height, binned, record, readings, sums, words),
-        place,
-    )
+    let sides = Sides {
+        width,
+        height,
+        binned,
+    };
+    told(frame_of(sides, record, readings, sums, words), place)
 }
 
 // Feed, with `fed` readings of the ramp already fed: the number of the first refusal of Open, Update, Start and Feed, 0 if there is none, and its place.
@@ -51,10 +55,12 @@ pub extern "C" fn ramp_feed(
     ensures place { place.new ≡ refusal_place (feed_answer width height binned «record».now fed readings.now sums.old) }
     ensures sums { sums.new ≡ feed_leaves width height binned «record».now fed readings.now sums.old }
 {
-    told(
-        feed_of(width, height, binned, record, fed, readings, sums),
-        place,
-    )
+    let sides = Sides {
+        width,
+        height,
+        binned,
+    };
+    told(feed_of(sides, record, fed, readings, sums), place)
 }
 
 // Read out, with all readings of the ramp fed: the number of the first refusal of Open, Update, Start and Read out, 0 if there is none, and its place.
@@ -72,8 +78,10 @@ pub extern "C" fn ramp_read_out(
     ensures place { place.new ≡ refusal_place (read_out_answer width height binned «record».now sums.now words.old) }
     ensures words { words.new ≡ read_out_leaves width height binned «record».now sums.now words.old }
 {
-    told(
-        read_out_of(width, height, binned, record, sums, words),
-        place,
-    )
+    let sides = Sides {
+        width,
+        height,
+        binned,
+    };
+    told(read_out_of(sides, record, sums, words), place)
 }

@@ -18,6 +18,8 @@ use Rattle.laws.proofs.Ints.{up, dn, sum, signed}
 use Rattle.laws.proofs.Firsts.{Nowhere, Says, first_says, first_found, first_not, nowhere_any}
 use Rattle.laws.proofs.Parts.{All}
 use Rattle.laws.proofs.Tests.{clash, cases, true_and}
+use Rattle.std.specs.Prelude.{Result, Ok}
+use Rattle.checks.specs.declared.Refusal.{Refusal}
 use Rattle.settings.specs.declared.Settings.{Settings}
 use Rattle.settings.specs.Settings.{truncation_in_range}
 use Rattle.settings.specs.Covered.{is_covered, ceiling}
@@ -79,8 +81,8 @@ module _ (ℓ : Ledger) (range : InRange ℓ.in_force) where
 
   -- ---- the three ways that a word reads
 
-  module _ (ps : List ℕ) (reads : WordRead) where
-    at_mark : (n : ℕ) → FirstOver ℓ ps n → reads ≡ Saturated n → WordClaim ℓ ps reads
+  module _ (ps : List ℕ) (reads : Result WordRead Refusal) where
+    at_mark : (n : ℕ) → FirstOver ℓ ps n → reads ≡ Ok (Saturated n) → WordClaim ℓ ps reads
     at_mark n f e = record {
       saturated = λ m. (
         (λ q. let i : n ≡ m = cc in rw i at f),
@@ -90,7 +92,7 @@ module _ (ℓ : Ledger) (range : InRange ℓ.in_force) where
       ordinary = λ never t. absurd (never n f);
     }
 
-    at_negative : NeverOver ℓ ps → is_negative (exact_sums ℓ ps) ≡ true → reads ≡ Negative → WordClaim ℓ ps reads
+    at_negative : NeverOver ℓ ps → is_negative (exact_sums ℓ ps) ≡ true → reads ≡ Ok Negative → WordClaim ℓ ps reads
     at_negative never t e = record {
       saturated = λ m. ((λ q. clash (cc)), λ g. absurd (never m g));
       negative = ((λ q. (never, t)), λ g. e);

@@ -2,6 +2,7 @@
 --     frame_is        it is the frame that the readings make
 --     frame_claim     under covered settings no word of it is false
 use Prim.Native.Nat.{ℕ, ◌*◌, ◌<◌}
+use mathlib.Core.Bool.{true}
 use mathlib.Core.List.{List}
 use mathlib.Core.Path.{◌≡◌, ap, ◌∙◌}
 use native.Mathlib.Omega.{arith}
@@ -9,13 +10,12 @@ use lib.IntN.{ℤ, pos}
 use lib.ListN.{length, get_or}
 use Rattle.laws.proofs.Each.{each_length, each_same, each_at}
 use Rattle.laws.proofs.Parts.{map_same}
-use Rattle.checks.specs.declared.Answer.TheVariants.{Taken}
+use Rattle.std.specs.Prelude.{Ok}
 use Rattle.sums.specs.Exact.{entry_after}
 use Rattle.sums.proofs.Agrees.{agrees_full}
 use Rattle.encoding.specs.Word.{word_of}
 use Rattle.encoding.specs.Frame.{word_at, frame_of}
 use Rattle.encoding.proofs.Grid.{pixels_on, pixels_some}
-use Rattle.board.specs.declared.Coverage.TheVariants.{Covered}
 use Rattle.operations.specs.ReadOut.{read_out_of, read_out_words}
 use Rattle.operations.specs.Covered.{coverage_of}
 use Rattle.operations.proofs.Says.{covered_is}
@@ -27,7 +27,7 @@ use Rattle.history.proofs.Claims.{word_is, word_claim}
 use Rattle.history.proofs.Invariant.{Good, parts, sides}
 
 module _ {ℓ : Ledger} {allowed : Allowed} (good : Good ℓ allowed)
-    (sums : List ℤ) (output : List ℕ) (taken : refusal ℓ (read_out sums output) ≡ Taken) (handed : allowed sums) where
+    (sums : List ℤ) (output : List ℕ) (taken : refusal ℓ (read_out sums output) ≡ Ok tt) (handed : allowed sums) where
   checked : ReadOutTaken (view_of ℓ) sums (length output)
   checked = read_out_taken (view_of ℓ) sums output taken
 
@@ -50,7 +50,7 @@ module _ {ℓ : Ledger} {allowed : Allowed} (good : Good ℓ allowed)
       ap (word_of ℓ.in_force.truncation) (map_same _ _ entry_is (pixels ℓ j) (pixels_on _ _ _ z.width.low (λ e. (z.width.even e, z.height.even e)) j l))
       ∙ word_is ℓ (parts good).in_force (pixels ℓ j)))
 
-  pub frame_claim : coverage_of (view_of ℓ) ≡ Covered → FrameClaim ℓ (read_out_of (view_of ℓ) sums output).answer (read_out_words (view_of ℓ) sums output)
+  pub frame_claim : coverage_of (view_of ℓ) ≡ Ok true → FrameClaim ℓ (read_out_of (view_of ℓ) sums output).answer (read_out_words (view_of ℓ) sums output)
   unfolding read_out_of frame_from
   frame_claim c = record {
     succeeds = taken;
@@ -58,5 +58,5 @@ module _ {ℓ : Ledger} {allowed : Allowed} (good : Good ℓ allowed)
     whole = ap length frame_is ∙ each_length _ (words ℓ);
     word = λ j l.
         rw (frame_is, each_at {A = ℕ} _ (words ℓ) j 0 l)
-        (word_claim ℓ (parts good).in_force ((covered_is (view_of ℓ) good.whole).0 c) (pixels ℓ j) (pixels_some ℓ.width ℓ.binned j));
+        (word_claim ℓ (parts good).in_force ((covered_is (view_of ℓ) good.whole).0 c) (pixels ℓ j) (pixels_some ℓ.sides.width ℓ.sides.binned j));
   }

@@ -11,10 +11,10 @@ use lib.Dec.{ltb, eqb}
 use lib.IntN.{ℤ, pos}
 use lib.ListN.{length, get_or}
 use Rattle.laws.specs.Lists.{every}
-use Rattle.checks.specs.declared.Answer.{Answer}
-use Rattle.checks.specs.declared.Found.TheVariants.{Nothing}
+use Rattle.std.specs.Prelude.{None}
+use Rattle.checks.specs.declared.Reason.TheVariants.{NoRamp, SumsLength, TooManyReadings, ReadingRange, EntryNotPossible, ReadingsWanted, WordsLength, UnsoundBoard}
 use Rattle.checks.specs.Search.{first_place}
-use Rattle.checks.specs.Checks.{verdict}
+use Rattle.checks.specs.Checks.{Answer, verdict}
 use Rattle.checks.proofs.Laws.{Spares, when_spares, found_spares, none_spares}
 use Rattle.checks.proofs.Search.{found_every}
 use Rattle.readings.specs.Readings.{reading_in_range}
@@ -35,18 +35,18 @@ use Rattle.history.specs.Demands.{NotDamaged}
 use Rattle.history.proofs.Invariant.{Good, parts, sides, few}
 
 -- what Feed and Read out begin with has other numbers, and shows how long the sums are
-ramp_spares : (b : Board) (n : ℕ) (rest : List Answer) → (n ≡ Board.area b → Spares 14 (verdict rest)) → Spares 14 (verdict (ramp_checks b n ++ rest))
+ramp_spares : (b : Board) (n : ℕ) (rest : List Answer) → (n ≡ Board.area b → Spares EntryNotPossible (verdict rest)) → Spares EntryNotPossible (verdict (ramp_checks b n ++ rest))
 ramp_spares b n rest h =
-    when_spares 14 99 _ refl (not (sound b))
-    (λ t. when_spares 14 10 _ refl (not b.running)
-    (λ t. when_spares 14 11 _ refl (not (eqb n (Board.area b))) (λ t. h (eqb-true _ _ (not-false _ t)))))
+    when_spares EntryNotPossible UnsoundBoard _ refl (not (sound b))
+    (λ t. when_spares EntryNotPossible NoRamp _ refl (not b.running)
+    (λ t. when_spares EntryNotPossible SumsLength _ refl (not (eqb n (Board.area b))) (λ t. h (eqb-true _ _ (not-false _ t)))))
 
 module _ {ℓ : Ledger} {allowed : Allowed} (good : Good ℓ allowed) where
   module _ (sums : List ℤ) (handed : allowed sums) (size : length sums ≡ area ℓ) where
     agree : Agrees ℓ.in_force (area ℓ) ℓ.readings sums
     agree = good.sums sums handed size
 
-    pub not_damaged : (count : ℕ) → first_place (length sums) (not_possible_at (pos 0) (possible ℓ.in_force) (length sums) (length ℓ.readings) count sums) ≡ Nothing
+    pub not_damaged : (count : ℕ) → first_place (length sums) (not_possible_at (pos 0) (possible ℓ.in_force) (length sums) (length ℓ.readings) count sums) ≡ None
     not_damaged count =
         rw size
         (never_damaged ℓ.in_force (parts good).in_force (area ℓ) (sides good).some ℓ.readings good.readings (few good) sums agree count)
@@ -63,13 +63,13 @@ module _ {ℓ : Ledger} {allowed : Allowed} (good : Good ℓ allowed) where
   honest (feed xs sums) = λ a.
       let b = view_of ℓ in
       ramp_spares b (length sums) (reading_checks b xs sums)
-      (λ size. when_spares 14 12 _ refl (ltb (wanted b) (b.fed + length xs))
-      (λ t. found_spares 14 13 _ refl (first_place (length xs) (λ i. not (reading_in_range (get_or xs i 0)))) (none_spares 14 14 _ (not_damaged sums a size (length xs)))))
+      (λ size. when_spares EntryNotPossible TooManyReadings _ refl (ltb (wanted b) (b.fed + length xs))
+      (λ t. found_spares EntryNotPossible ReadingRange _ refl (first_place (length xs) (λ i. not (reading_in_range (get_or xs i 0)))) (none_spares EntryNotPossible EntryNotPossible _ (not_damaged sums a size (length xs)))))
   honest (read_out sums output) = λ a.
       let b = view_of ℓ in
       ramp_spares b (length sums) (output_checks b sums (length output))
-      (λ size. when_spares 14 15 _ refl (ltb b.fed (wanted b))
-      (λ full. when_spares 14 16 _ refl (not (eqb (length output) (word_count b.binned (Board.area b))))
-      (λ t. none_spares 14 14 _ (found_every (possible ℓ.in_force ℓ.in_force.samples) sums (pos 0) (full_possible sums a size (ltb-false _ _ full))))))
+      (λ size. when_spares EntryNotPossible ReadingsWanted _ refl (ltb b.fed (wanted b))
+      (λ full. when_spares EntryNotPossible WordsLength _ refl (not (eqb (length output) (word_count b.sides.binned (Board.area b))))
+      (λ t. none_spares EntryNotPossible EntryNotPossible _ (found_every (possible ℓ.in_force ℓ.in_force.samples) sums (pos 0) (full_possible sums a size (ltb-false _ _ full))))))
   honest drop = tt
   honest covered = tt

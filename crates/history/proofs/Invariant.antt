@@ -13,9 +13,8 @@ use lib.ListN.{length}
 use Rattle.laws.specs.Lists.{every}
 use Rattle.laws.proofs.Tests.{true_and}
 use Rattle.laws.proofs.Elements.{every_append}
-use Rattle.checks.specs.declared.Answer.{Answer}
-use Rattle.checks.specs.declared.Answer.TheVariants.{Taken, Refused}
-use Rattle.checks.specs.Checks.{by_answer}
+use Rattle.std.specs.Prelude.{Ok, Err}
+use Rattle.checks.specs.Checks.{Answer, by_answer}
 use Rattle.readings.specs.Readings.{reading_in_range}
 use Rattle.sums.proofs.Agrees.{Agrees, agrees_none, agrees_all}
 use Rattle.board.specs.Board.{sound}
@@ -48,14 +47,14 @@ module _ {ℓ : Ledger} {allowed : Allowed} (good : Good ℓ allowed) where
   pub parts : Sound (view_of ℓ)
   parts = sound_parts (view_of ℓ) good.whole
 
-  pub sides : Sides ℓ.width ℓ.height ℓ.binned
+  pub sides : Sides ℓ.sides.width ℓ.sides.height ℓ.sides.binned
   sides = sides_of (view_of ℓ) parts
 
   -- at most nine readings of each pixel
   pub few : length ℓ.readings ≤ 9 * area ℓ
   few = omega (arith, parts.fed, wanted_nine (view_of ℓ) parts)
 
-  feed_keeps : (xs : List ℕ) (brought : List ℤ) → refusal ℓ (feed xs brought) ≡ Taken → sound (view_of (effect ℓ (feed xs brought))) ≡ true
+  feed_keeps : (xs : List ℕ) (brought : List ℤ) → refusal ℓ (feed xs brought) ≡ Ok tt → sound (view_of (effect ℓ (feed xs brought))) ≡ true
       → Good (effect ℓ (feed xs brought)) (after_taken (view_of ℓ) (feed xs brought) allowed)
   unfolding fed_sums
   feed_keeps xs brought t s =
@@ -69,7 +68,7 @@ module _ {ℓ : Ledger} {allowed : Allowed} (good : Good ℓ allowed) where
       }
 
   -- the board that it shows is sound
-  taken_keeps : (c : Call) → refusal ℓ c ≡ Taken → sound (view_of (effect ℓ c)) ≡ true → Good (effect ℓ c) (after_taken (view_of ℓ) c allowed)
+  taken_keeps : (c : Call) → refusal ℓ c ≡ Ok tt → sound (view_of (effect ℓ c)) ≡ true → Good (effect ℓ c) (after_taken (view_of ℓ) c allowed)
   taken_keeps (update bytes) t s = record { whole = s; readings = good.readings; sums = good.sums }
   taken_keeps start t s = none_fed (effect ℓ start) any_sums refl s
   taken_keeps (feed xs sums) t s = feed_keeps xs sums t s
@@ -82,11 +81,11 @@ module _ {ℓ : Ledger} {allowed : Allowed} (good : Good ℓ allowed) where
     where
       by : (a : Answer) → refusal ℓ c ≡ a → sound (view_of (by_answer a (effect ℓ c) (refused_effect ℓ c))) ≡ true
           → Good (by_answer a (effect ℓ c) (refused_effect ℓ c)) (by_answer a (after_taken (view_of ℓ) c allowed) allowed)
-      by Taken t s = taken_keeps c t s
-      by (Refused r) t s = good
+      by (Ok tt) t s = taken_keeps c t s
+      by (Err r) t s = good
 
-  pub taken_good : (c : Call) → refusal ℓ c ≡ Taken → Good (effect ℓ c) (after_taken (view_of ℓ) c allowed)
+  pub taken_good : (c : Call) → refusal ℓ c ≡ Ok tt → Good (effect ℓ c) (after_taken (view_of ℓ) c allowed)
   taken_good c t = rw t at (keeps c)
 
-pub opened_good : (w h : ℕ) (binned : Bool) → (open_of w h binned).answer ≡ Taken → Good (fresh w h binned) any_sums
+pub opened_good : (w h : ℕ) (binned : Bool) → (open_of w h binned).answer ≡ Ok tt → Good (fresh w h binned) any_sums
 opened_good w h binned t = none_fed (fresh w h binned) any_sums refl (rw (opened_is w h binned t) at (laws.opened_sound w h binned t))

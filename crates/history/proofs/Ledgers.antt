@@ -6,22 +6,20 @@
 --     gives_is        it gives what the ledger says
 --     call_sound      it leaves a sound board sound
 use Prim.Native.Nat.{ℕ}
-use mathlib.Core.Bool.{Bool, true, false, cond}
+use mathlib.Core.Bool.{Bool}
 use mathlib.Core.Path.{◌≡◌, refl}
 use lib.ListN.{length-append}
 use Rattle.settings.specs.Covered.{is_covered}
-use Rattle.checks.specs.declared.Answer.{Answer}
-use Rattle.checks.specs.declared.Answer.TheVariants.{Taken, Refused}
-use Rattle.checks.specs.Checks.{verdict, by_answer}
+use Rattle.std.specs.Prelude.{Ok, Err}
+use Rattle.checks.specs.Checks.{Answer, verdict, by_answer, or_refused}
 use Rattle.board.specs.declared.Board.{Board}
-use Rattle.board.specs.declared.Coverage.TheVariants.{Covered, Uncovered}
 use Rattle.board.specs.Board.{sound}
 use Rattle.board.specs.Open.{open_of}
 use Rattle.operations.specs.Update.{update_of}
 use Rattle.operations.specs.Ramp.{start_of, drop_of}
 use Rattle.operations.specs.Feed.{feed_of, fed_sums}
 use Rattle.operations.specs.ReadOut.{read_out_of, read_out_words}
-use Rattle.operations.specs.Covered.{covered_checks, or_refused, coverage_of}
+use Rattle.operations.specs.Covered.{covered_checks, coverage_of}
 use Rattle.operations.proofs.Laws.{laws}
 use Rattle.history.specs.Calls.{Call, update, start, feed, read_out, drop, covered, Ledger, fresh, view_of, refusal, effect, next, answer_of, outcome_of, Allowed, Moment}
 use Rattle.history.specs.Demands.{Gives}
@@ -29,15 +27,14 @@ use Rattle.history.specs.Demands.{Gives}
 abbrev pub found : Ledger → Allowed → Call → Moment
 found ℓ allowed c = record { ledger = ℓ; board = view_of ℓ; allowed = allowed; call = c }
 
-pub opened_is : (w h : ℕ) (binned : Bool) → (open_of w h binned).answer ≡ Taken → (open_of w h binned).board ≡ view_of (fresh w h binned)
+pub opened_is : (w h : ℕ) (binned : Bool) → (open_of w h binned).answer ≡ Ok tt → (open_of w h binned).board ≡ view_of (fresh w h binned)
 unfolding open_of
 opened_is w h binned t = rw t
 
 -- Covered refuses what its checks refuse, whatever it says otherwise
-says_all : (a : Answer) (t : Bool) → answer_of (or_refused a (cond t Covered Uncovered)) ≡ a
-says_all Taken true = refl
-says_all Taken false = refl
-says_all (Refused r) t = refl
+says_all : (a : Answer) (t : Bool) → answer_of (or_refused a t) ≡ a
+says_all (Ok tt) t = refl
+says_all (Err r) t = refl
 
 pub answer_is : (ℓ : Ledger) (c : Call) → (outcome_of (view_of ℓ) c).answer ≡ refusal ℓ c
 unfolding update_of start_of feed_of read_out_of drop_of coverage_of
@@ -50,12 +47,12 @@ answer_is ℓ covered = says_all (verdict (covered_checks (view_of ℓ))) (is_co
 
 -- what the checks leave of a board is what the ledger shows, where what a taken call leaves is
 shown : {b : Board} (a : Answer) (new old : Ledger) → b ≡ view_of new → by_answer a b (view_of old) ≡ view_of (by_answer a new old)
-shown Taken new old e = e
-shown (Refused r) new old e = refl
+shown (Ok tt) new old e = e
+shown (Err r) new old e = refl
 
 unchanged : (a : Answer) (ℓ : Ledger) → view_of ℓ ≡ view_of (by_answer a ℓ ℓ)
-unchanged Taken ℓ = refl
-unchanged (Refused r) ℓ = refl
+unchanged (Ok tt) ℓ = refl
+unchanged (Err r) ℓ = refl
 
 pub board_is : (ℓ : Ledger) (c : Call) → (outcome_of (view_of ℓ) c).board ≡ view_of (next ℓ c)
 unfolding update_of start_of feed_of read_out_of drop_of

@@ -7,7 +7,7 @@ use Prim.Native.Nat.{ℕ}
 use mathlib.Core.Bool.{Bool}
 use mathlib.Core.List.{List, [], ◌∷◌}
 use mathlib.Core.Path.{◌≡◌, refl}
-use Rattle.checks.specs.declared.Answer.TheVariants.{Taken}
+use Rattle.std.specs.Prelude.{Ok}
 use Rattle.checks.specs.Checks.{by_answer}
 use Rattle.board.specs.Open.{open_of}
 use Rattle.history.specs.Calls.{Call, Ledger, fresh, view_of, refusal, next, Allowed, any_sums, after_taken, Moment, moments}
@@ -29,8 +29,8 @@ module _ (K : Moment → Type 0) (I : Ledger → Allowed → Type 0) (P : Moment
   everywhere (c ∷ calls) {ℓ} {allowed} i k =
       (claim ℓ allowed i c k.0, rw (board_is ℓ c) (everywhere calls (kept ℓ allowed i c k.0) (rw (board_is ℓ c) at k.1)))
 
-  pub played_out : ((w h : ℕ) (binned : Bool) → (open_of w h binned).answer ≡ Taken → I (fresh w h binned) any_sums)
-      → (w h : ℕ) (binned : Bool) → (open_of w h binned).answer ≡ Taken → (calls : List Call)
+  pub played_out : ((w h : ℕ) (binned : Bool) → (open_of w h binned).answer ≡ Ok tt → I (fresh w h binned) any_sums)
+      → (w h : ℕ) (binned : Bool) → (open_of w h binned).answer ≡ Ok tt → (calls : List Call)
       → Every K (played w h binned calls) → Every P (played w h binned calls)
   played_out first w h binned t calls k =
       rw (opened_is w h binned t) (everywhere calls (first w h binned t) (rw (opened_is w h binned t) at k))

@@ -15,7 +15,7 @@ use Rattle.laws.proofs.Tests.{cases, true_and}
 use Rattle.laws.proofs.Ints.{up, dn, is_le, signed}
 use Rattle.laws.proofs.Each.{each_length}
 use Rattle.laws.proofs.Every.{every_at}
-use Rattle.checks.specs.declared.Answer.TheVariants.{Taken}
+use Rattle.std.specs.Prelude.{Ok}
 use Rattle.settings.specs.declared.Settings.{Settings}
 use Rattle.readings.specs.Readings.{reading_in_range}
 use Rattle.entries.specs.Possible.{possible}
@@ -58,7 +58,7 @@ module _ {ℓ : Ledger} {allowed : Allowed} {sums : List ℤ} (ramp : Ramp ℓ a
   checked = record { whole = ramp.good.whole; running = ramp.running; length_is = ramp.size }
 
   module _ (xs : List ℕ) (room : length ℓ.readings + length xs ≤ wanted (view_of ℓ)) (ok : every reading_in_range xs ≡ true) where
-    pub feed_goes : refusal ℓ (feed xs sums) ≡ Taken
+    pub feed_goes : refusal ℓ (feed xs sums) ≡ Ok tt
     feed_goes =
         feed_passes (view_of ℓ) xs sums
         (record { ramp = checked; room = room; readings = ok; entries = not_damaged ramp.good sums ramp.handed ramp.size (length xs) })
@@ -87,7 +87,7 @@ module _ {ℓ : Ledger} {allowed : Allowed} {sums : List ℤ} (ramp : Ramp ℓ a
     pub fed_ramp : Ramp (effect ℓ (feed xs sums)) (after_taken (view_of ℓ) (feed xs sums) allowed) left
     fed_ramp = record { good = fed_good; running = ramp.running; handed = (ramp.handed, refl); size = left_size; bits = left_bits }
 
-  pub read_goes : length ℓ.readings ≡ wanted (view_of ℓ) → refusal ℓ (read_out sums (blank ℓ)) ≡ Taken
+  pub read_goes : length ℓ.readings ≡ wanted (view_of ℓ) → refusal ℓ (read_out sums (blank ℓ)) ≡ Ok tt
   read_goes full =
       let l : wanted (view_of ℓ) ≤ length ℓ.readings = omega arith in
       read_out_passes (view_of ℓ) sums (blank ℓ)

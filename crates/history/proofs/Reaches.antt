@@ -18,11 +18,10 @@ use Rattle.laws.proofs.Each.{each_length}
 use Rattle.laws.proofs.Every.{every_at, every_all}
 use Rattle.laws.proofs.Elements.{every_append, every_made}
 use Rattle.settings.specs.declared.Settings.{Settings}
-use Rattle.update.specs.declared.Updated.{Updated}
 use Rattle.settings.specs.Settings.{defaults, in_range}
-use Rattle.update.specs.Update.{resulting, update_of}
+use Rattle.update.specs.Update.{Updated, resulting, update_of}
 use Rattle.update.proofs.Laws.{laws}
-use Rattle.checks.specs.declared.Answer.TheVariants.{Taken}
+use Rattle.std.specs.Prelude.{Ok}
 use Rattle.checks.specs.Checks.{verdict}
 use Rattle.readings.specs.Readings.{max_reading, reading_in_range}
 use Rattle.board.specs.Board.{wanted}
@@ -44,7 +43,7 @@ record Goes (s : Settings) (xs : List ℕ) (ℓ : Ledger) (allowed : Allowed) (c
   pub no_update : Every NoTakenUpdate (moments ℓ (view_of ℓ) allowed calls)
 
 -- what a taken call and the calls after it find
-after : (F : List Moment → Type 0) (ℓ : Ledger) (allowed : Allowed) (c : Call) (calls : List Call) → refusal ℓ c ≡ Taken
+after : (F : List Moment → Type 0) (ℓ : Ledger) (allowed : Allowed) (c : Call) (calls : List Call) → refusal ℓ c ≡ Ok tt
     → F (found ℓ allowed c ∷ moments (effect ℓ c) (view_of (effect ℓ c)) (after_taken (view_of ℓ) c allowed) calls)
     → F (moments ℓ (view_of ℓ) allowed (c ∷ calls))
 unfolding moments
@@ -78,7 +77,7 @@ module _ (s : Settings) (xs : List ℕ) where
   reads (ys ∷ cut) {ℓ} {allowed} {sums} ramp is all full ok =
       let o = and_true (every reading_in_range ys) (every reading_in_range (joined cut)) (sym (every_append reading_in_range ys (joined cut)) ∙ ok) in
       let room : length ℓ.readings + length ys ≤ wanted (view_of ℓ) = omega (arith, simp length-append at (ap length all)) in
-      let goes : refusal ℓ (feed ys sums) ≡ Taken = feed_goes ramp ys room o.0 in
+      let goes : refusal ℓ (feed ys sums) ≡ Ok tt = feed_goes ramp ys room o.0 in
       let rest = reads cut (fed_ramp ramp ys room o.0) is (append_assoc ℓ.readings ys (joined cut) ∙ all) full o.1 in
       record {
         calls = feed ys sums ∷ rest.calls;
@@ -90,7 +89,7 @@ module _ (s : Settings) (xs : List ℕ) where
 
 -- where no ramp runs one can begin
 module _ {ℓ : Ledger} (good : Good ℓ any_sums) (idle : ℓ.running ≡ false) where
-  start_goes : refusal ℓ start ≡ Taken
+  start_goes : refusal ℓ start ≡ Ok tt
   unfolding verdict
   start_goes = rw (good.whole, idle)
 
@@ -116,14 +115,14 @@ module _ {ℓ : Ledger} (good : Good ℓ any_sums) (idle : ℓ.running ≡ false
         no_update = after (Every NoTakenUpdate) ℓ any_sums start rest.calls start_goes ((λ bytes q t. clash cc), rest.no_update);
       }
 
-module _ (w h : ℕ) (binned : Bool) (taken : (open_of w h binned).answer ≡ Taken) where
+module _ (w h : ℕ) (binned : Bool) (taken : (open_of w h binned).answer ≡ Ok tt) where
   abbrev opening : Ledger
   opening = fresh w h binned
 
   opening_good : Good opening any_sums
   opening_good = opened_good w h binned taken
 
-  update_goes : (bytes : List ℕ) → (update_of defaults bytes).answer ≡ Taken → refusal opening (update bytes) ≡ Taken
+  update_goes : (bytes : List ℕ) → (update_of defaults bytes).answer ≡ Ok tt → refusal opening (update bytes) ≡ Ok tt
   unfolding verdict
   update_goes bytes fine = rw (opening_good.whole, fine)
 
@@ -133,9 +132,9 @@ module _ (w h : ℕ) (binned : Bool) (taken : (open_of w h binned).answer ≡ Ta
   reached s range cut full ok =
       let u = laws.reachable s defaults range refl in
       let bytes = u.0 in
-      let fine : (update_of defaults bytes).answer ≡ Taken = ap (λ (x : Updated). x.answer) u.2 in
+      let fine : (update_of defaults bytes).answer ≡ Ok tt = ap (λ (x : Updated). x.answer) u.2 in
       let e : resulting bytes defaults ≡ s = rw fine at (ap (λ (x : Updated). x.settings) u.2) in
-      let goes : refusal opening (update bytes) ≡ Taken = update_goes bytes fine in
+      let goes : refusal opening (update bytes) ≡ Ok tt = update_goes bytes fine in
       let rest = starts (taken_good opening_good (update bytes) goes) refl s e cut full ok in
       record {
         calls = update bytes ∷ rest.calls;

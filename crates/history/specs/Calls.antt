@@ -1,14 +1,13 @@
 -- A list of calls: the calls, the ledger, and what each call of a list finds.
-use Rattle.std.specs.Prelude.{ℕ, Bool, true, false, List, [], ◌∷◌, ◌++◌, ◌≡◌, ℤ, length}
+use Rattle.std.specs.Prelude.{ℕ, Bool, true, false, List, [], ◌∷◌, ◌++◌, ◌≡◌, ℤ, length, Result, Ok, Err}
 use Rattle.settings.specs.declared.Settings.{Settings}
 use Rattle.settings.specs.Settings.{defaults}
 use Rattle.update.specs.Update.{resulting}
-use Rattle.checks.specs.declared.Answer.{Answer}
-use Rattle.checks.specs.declared.Answer.TheVariants.{Taken, Refused}
-use Rattle.checks.specs.Checks.{verdict, by_answer}
+use Rattle.checks.specs.declared.Refusal.{Refusal}
+use Rattle.checks.specs.Checks.{Answer, verdict, by_answer}
+use Rattle.sides.specs.declared.Sides.{Sides}
 use Rattle.board.specs.declared.Board.{Board}
-use Rattle.board.specs.declared.Outcome.{Outcome}
-use Rattle.board.specs.declared.Coverage.{Coverage}
+use Rattle.board.specs.Board.{Outcome}
 use Rattle.operations.specs.Update.{update_checks, update_of}
 use Rattle.operations.specs.Ramp.{start_checks, start_of, drop_checks, drop_of}
 use Rattle.operations.specs.Feed.{feed_checks, feed_of, fed_sums}
@@ -26,9 +25,7 @@ pub data Call : Type 0 where
 
 -- The *ledger* is kept from what the calls bring alone; no answer of the program is in it.
 pub record Ledger : Type 0 where
-  pub width : ℕ
-  pub height : ℕ
-  pub binned : Bool
+  pub sides : Sides
   pub waiting : Settings
   pub in_force : Settings
   pub running : Bool
@@ -36,19 +33,11 @@ pub record Ledger : Type 0 where
 
 -- the ledger at the start: the sides and binning of the Open, the defaults waiting and in force, no ramp, no readings
 abbrev pub fresh : ℕ → ℕ → Bool → Ledger
-fresh width height binned = record { width = width; height = height; binned = binned; waiting = defaults; in_force = defaults; running = false; readings = [] }
+fresh width height binned = record { sides = record { width = width; height = height; binned = binned }; waiting = defaults; in_force = defaults; running = false; readings = [] }
 
 -- what the checks see of a ledger: a board that was fed as many readings as the ledger holds
 abbrev pub view_of : Ledger → Board
-view_of ℓ = record {
-  width = ℓ.width;
-  height = ℓ.height;
-  binned = ℓ.binned;
-  waiting = ℓ.waiting;
-  in_force = ℓ.in_force;
-  running = ℓ.running;
-  fed = length ℓ.readings;
-}
+view_of ℓ = record { sides = ℓ.sides; waiting = ℓ.waiting; in_force = ℓ.in_force; running = ℓ.running; fed = length ℓ.readings }
 
 -- each operation's checks
 abbrev pub checks : Board → Call → List Answer
@@ -65,22 +54,14 @@ refusal ℓ c = verdict (checks (view_of ℓ) c)
 
 -- the ramp ends, and the readings are emptied
 abbrev pub ending : Ledger → Ledger
-ending ℓ = record { width = ℓ.width; height = ℓ.height; binned = ℓ.binned; waiting = ℓ.waiting; in_force = ℓ.in_force; running = false; readings = [] }
+ending ℓ = record { sides = ℓ.sides; waiting = ℓ.waiting; in_force = ℓ.in_force; running = false; readings = [] }
 
 -- what a taken call does: Update writes its fields into the waiting settings; Start copies these in force and begins a ramp; Feed adds its readings at the end;
 -- Read out and Drop end the ramp; Covered leaves all as it is
 abbrev pub effect : Ledger → Call → Ledger
-effect ℓ (update bytes) = record {
-  width = ℓ.width;
-  height = ℓ.height;
-  binned = ℓ.binned;
-  waiting = resulting bytes ℓ.waiting;
-  in_force = ℓ.in_force;
-  running = ℓ.running;
-  readings = ℓ.readings;
-}
-effect ℓ start = record { width = ℓ.width; height = ℓ.height; binned = ℓ.binned; waiting = ℓ.waiting; in_force = ℓ.waiting; running = true; readings = [] }
-effect ℓ (feed new sums) = record { width = ℓ.width; height = ℓ.height; binned = ℓ.binned; waiting = ℓ.waiting; in_force = ℓ.in_force; running = ℓ.running; readings = ℓ.readings ++ new }
+effect ℓ (update bytes) = record { sides = ℓ.sides; waiting = resulting bytes ℓ.waiting; in_force = ℓ.in_force; running = ℓ.running; readings = ℓ.readings }
+effect ℓ start = record { sides = ℓ.sides; waiting = ℓ.waiting; in_force = ℓ.waiting; running = true; readings = [] }
+effect ℓ (feed new sums) = record { sides = ℓ.sides; waiting = ℓ.waiting; in_force = ℓ.in_force; running = ℓ.running; readings = ℓ.readings ++ new }
 effect ℓ (read_out sums output) = ending ℓ
 effect ℓ drop = ending ℓ
 effect ℓ covered = ℓ
@@ -95,10 +76,9 @@ next ℓ c = by_answer (refusal ℓ c) (effect ℓ c) (refused_effect ℓ c)
 -- ---- the board through the list, by the definitions that the operations' contracts cite
 
 -- Covered's answer, as the other operations give theirs
-abbrev pub answer_of : Coverage → Answer
-answer_of Coverage.Covered = Taken
-answer_of Coverage.Uncovered = Taken
-answer_of (Coverage.Refused r) = Refused r
+abbrev pub answer_of : Result Bool Refusal → Answer
+answer_of (Ok says) = Ok tt
+answer_of (Err r) = Err r
 
 abbrev pub outcome_of : Board → Call → Outcome
 outcome_of b (update bytes) = update_of b bytes

@@ -1,13 +1,13 @@
 -- The three demands, over every list of calls on a board that Open gave. Read from top to bottom.
-use Rattle.std.specs.Prelude.{ℕ, ◌*◌, ◌≤◌, ◌<◌, Bool, true, false, cond, ◌&&◌, List, [], ◌∷◌, ◌↔◌, ◌⊎◌, ◌≡◌, ltb, ℤ, pos, neg_ℤ, length, get_or, ◌≤ℤ◌}
+use Rattle.std.specs.Prelude.{ℕ, ◌*◌, ◌≤◌, ◌<◌, Bool, true, false, ◌&&◌, List, [], ◌∷◌, ◌↔◌, ◌⊎◌, ◌≡◌, ltb, ℤ, pos, neg_ℤ, length, get_or, ◌≤ℤ◌, Result, Ok, Err}
 use Rattle.std.specs.Int.Signed.{le_z, lt_z}
 use Rattle.laws.specs.Lists.{every, joined, total}
 use Rattle.settings.specs.declared.Settings.{Settings}
 use Rattle.settings.specs.Settings.{defaults, in_range}
 use Rattle.settings.specs.Covered.{ceiling, is_covered}
-use Rattle.checks.specs.declared.Answer.{Answer}
-use Rattle.checks.specs.declared.Answer.TheVariants.{Taken, Refused}
-use Rattle.checks.specs.Checks.{by_answer}
+use Rattle.checks.specs.declared.Reason.TheVariants.{ReadingRange, EntryNotPossible}
+use Rattle.checks.specs.declared.Refusal.{Refusal}
+use Rattle.checks.specs.Checks.{Answer, by_answer, or_refused}
 use Rattle.readings.specs.Readings.{reading_in_range}
 use Rattle.sums.specs.Feed.{sums_after}
 use Rattle.sums.specs.Exact.{exact_sum}
@@ -18,18 +18,17 @@ use Rattle.encoding.specs.Frame.{frame_of}
 use Rattle.meaning.specs.Meaning.{read_word}
 use Rattle.encoding.specs.Meanings.{Between}
 use Rattle.board.specs.declared.Board.{Board}
-use Rattle.board.specs.declared.Coverage.TheVariants.{Covered, Uncovered}
 use Rattle.board.specs.Board.{sound}
 use Rattle.board.specs.Open.{open_of}
 use Rattle.operations.specs.Feed.{fed_sums}
 use Rattle.operations.specs.ReadOut.{read_out_of, read_out_words}
-use Rattle.operations.specs.Covered.{or_refused, coverage_of}
+use Rattle.operations.specs.Covered.{coverage_of}
 use Rattle.history.specs.Calls.{Call, update, start, feed, read_out, drop, covered, Ledger, fresh, view_of, refusal, next, outcome_of, any_sums, Moment, moments}
 use Rattle.history.specs.Readings.{area, words, pixels, exact_sums, FirstOver, NeverOver, frame_from}
 
 -- ---- lists
 
--- at each call of a list
+-- at each call of a list; std's word for it takes elements of `Type 0`, and a moment is of `Type 1`
 abbrev pub Every : (Moment → Type 0) → List Moment → Type 0
 Every P [] = Unit {0}
 Every P (m ∷ ms) = P m × Every P ms
@@ -40,7 +39,7 @@ played w h binned calls = moments (fresh w h binned) (open_of w h binned).board 
 
 -- at every call of every list, for all sides and binning that Open takes
 abbrev pub Always : (Moment → Type 0) → Type 0
-Always P = (w h : ℕ) (binned : Bool) → (open_of w h binned).answer ≡ Taken → (calls : List Call) → Every P (played w h binned calls)
+Always P = (w h : ℕ) (binned : Bool) → (open_of w h binned).answer ≡ Ok tt → (calls : List Call) → Every P (played w h binned calls)
 
 -- ---- demand 1, at one call
 
@@ -51,11 +50,11 @@ Gives ℓ b (feed readings sums) =
     ≡ by_answer (refusal ℓ (feed readings sums)) (sums_after ℓ.in_force (length ℓ.readings) readings sums) sums
 Gives ℓ b (read_out sums output) =
     read_out_words b sums output
-    ≡ by_answer (refusal ℓ (read_out sums output)) (frame_of ℓ.width ℓ.binned ℓ.in_force.truncation sums) output
+    ≡ by_answer (refusal ℓ (read_out sums output)) (frame_of ℓ.sides.width ℓ.sides.binned ℓ.in_force.truncation sums) output
 Gives ℓ b (update bytes) = Unit {0}
 Gives ℓ b start = Unit {0}
 Gives ℓ b drop = Unit {0}
-Gives ℓ b covered = coverage_of b ≡ or_refused (refusal ℓ covered) (cond (is_covered ℓ.in_force) Covered Uncovered)
+Gives ℓ b covered = coverage_of b ≡ or_refused (refusal ℓ covered) (is_covered ℓ.in_force)
 
 -- the board that the call gets is what the ledger says; the program's answer is, number and place, what the ledger's checks say; after the call the board is again
 -- what the ledger says, and so is all else that the call gives
@@ -67,15 +66,15 @@ pub record Demand1 (m : Moment) : Type 0 where
 
 -- the place of a refusal is 0, but for 13 and 14
 abbrev pub Placed : Answer → Type 0
-Placed Taken = Unit {0}
-Placed (Refused r) = (r.number ≡ 13) ⊎ ((r.number ≡ 14) ⊎ (r.place ≡ 0))
+Placed (Ok tt) = Unit {0}
+Placed (Err r) = (r.reason ≡ ReadingRange) ⊎ ((r.reason ≡ EntryNotPossible) ⊎ (r.place ≡ 0))
 
 -- ---- demand 2, at one call
 
 -- a taken Read out of an unbroken ramp: taken by the ledger, whatever the program says
 pub record TakenReadOut (m : Moment) (sums : List ℤ) (output : List ℕ) : Type 0 where
   pub brings : m.call ≡ read_out sums output
-  pub taken : refusal m.ledger m.call ≡ Taken
+  pub taken : refusal m.ledger m.call ≡ Ok tt
   pub handed_on : m.allowed sums
 
 -- its frame is the one that the readings and the settings in force make
@@ -85,17 +84,17 @@ Demand2 m = (sums : List ℤ) (output : List ℕ) → TakenReadOut m sums output
 -- ---- demand 3
 
 -- what Read a word gives for the word of the pixels ps
-pub record WordClaim (ℓ : Ledger) (ps : List ℕ) (reads : WordRead) : Type 0 where
+pub record WordClaim (ℓ : Ledger) (ps : List ℕ) (reads : Result WordRead Refusal) : Type 0 where
   -- saturated at n, if and only if n is the first sample over the threshold
-  pub saturated : (n : ℕ) → (reads ≡ Saturated n) ↔ FirstOver ℓ ps n
+  pub saturated : (n : ℕ) → (reads ≡ Ok (Saturated n)) ↔ FirstOver ℓ ps n
   -- negative, if and only if there is no such sample and the sign rule says so of the exact sums
-  pub negative : (reads ≡ Negative) ↔ (NeverOver ℓ ps × (is_negative (exact_sums ℓ ps) ≡ true))
+  pub negative : (reads ≡ Ok Negative) ↔ (NeverOver ℓ ps × (is_negative (exact_sums ℓ ps) ≡ true))
   -- otherwise ordinary, and the exact total lies between the limits, counted once for each pixel
   pub ordinary : NeverOver ℓ ps → is_negative (exact_sums ℓ ps) ≡ false → Between (length ps) (total (exact_sums ℓ ps)) reads
 
 -- of a frame: the ledger that its Read out finds, and what the Read out answers and leaves
 pub record FrameClaim (ℓ : Ledger) (answer : Answer) (frame : List ℕ) : Type 0 where
-  pub succeeds : answer ≡ Taken
+  pub succeeds : answer ≡ Ok tt
   pub complete : length ℓ.readings ≡ ℓ.in_force.samples * area ℓ
   pub whole : length frame ≡ words ℓ
   pub word : (j : ℕ) → j < words ℓ → WordClaim ℓ (pixels ℓ j) (read_word ℓ.in_force.truncation (get_or frame j 0))
@@ -108,7 +107,7 @@ NoFalseWord m =
 
 -- Covered says "covered" of the board that the call gets
 abbrev pub SaidCovered : Moment → Type 0
-SaidCovered m = coverage_of m.board ≡ Covered
+SaidCovered m = coverage_of m.board ≡ Ok true
 
 -- the last sentence, of every sound board: "covered" exactly when no N readings at or below the threshold, one per sample, have an exact sum of
 -- 32,752 × 2^r or more
@@ -116,7 +115,7 @@ abbrev pub CoveredExactly : Type 0
 CoveredExactly =
     (b : Board) → sound b ≡ true
     → let s = b.in_force in
-    (coverage_of b ≡ Covered)
+    (coverage_of b ≡ Ok true)
     ↔ ((reading : ℕ → ℕ) → ((n : ℕ) → 1 ≤ n → n ≤ s.samples → reading n ≤ s.threshold)
     → pos (ceiling s.truncation) ≤ℤ exact_sum s s.samples reading → ⊥)
 
@@ -130,8 +129,8 @@ pub record Demand3 : Type 0 where
 
 -- sums that were handed on are never refused by 14, however the readings are cut into Feeds
 abbrev pub NotDamaged : Ledger → (List ℤ → Type 0) → Call → Type 0
-NotDamaged ℓ allowed (feed readings sums) = allowed sums → (place : ℕ) → refusal ℓ (feed readings sums) ≡ Refused (record { number = 14; place = place }) → ⊥
-NotDamaged ℓ allowed (read_out sums output) = allowed sums → (place : ℕ) → refusal ℓ (read_out sums output) ≡ Refused (record { number = 14; place = place }) → ⊥
+NotDamaged ℓ allowed (feed readings sums) = allowed sums → (place : ℕ) → refusal ℓ (feed readings sums) ≡ Err (record { reason = EntryNotPossible; place = place }) → ⊥
+NotDamaged ℓ allowed (read_out sums output) = allowed sums → (place : ℕ) → refusal ℓ (read_out sums output) ≡ Err (record { reason = EntryNotPossible; place = place }) → ⊥
 NotDamaged ℓ allowed (update bytes) = Unit {0}
 NotDamaged ℓ allowed start = Unit {0}
 NotDamaged ℓ allowed drop = Unit {0}
@@ -142,7 +141,7 @@ Honest m = NotDamaged m.ledger m.allowed m.call
 
 -- ---- the demands are not empty
 
--- at some call of a list
+-- at some call of a list, for the same reason not by std's word
 abbrev pub Some : (Moment → Type 0) → List Moment → Type 0
 Some P [] = ⊥
 Some P (m ∷ ms) = P m ⊎ Some P ms
@@ -153,7 +152,7 @@ pub record ReadsOut (s : Settings) (xs : List ℕ) (m : Moment) : Type 0 where
   pub output : List ℕ
   pub taken : TakenReadOut m sums output
   pub settings : m.ledger.in_force ≡ s
-  pub coverage : coverage_of m.board ≡ cond (is_covered s) Covered Uncovered
+  pub coverage : coverage_of m.board ≡ Ok (is_covered s)
   pub readings : m.ledger.readings ≡ xs
 
 -- the readings that each Feed of a list brings
@@ -186,17 +185,17 @@ pub record Reached (w h : ℕ) (binned : Bool) (s : Settings) (cut : List (List 
 
 -- at one call: no Update is taken
 abbrev pub NoTakenUpdate : Moment → Type 0
-NoTakenUpdate m = (bytes : List ℕ) → m.call ≡ update bytes → refusal m.ledger m.call ≡ Taken → ⊥
+NoTakenUpdate m = (bytes : List ℕ) → m.call ≡ update bytes → refusal m.ledger m.call ≡ Ok tt → ⊥
 
 pub record DefaultsCovered : Type 1 where
   -- Covered says "covered" of every board that Open gives
-  pub opened : (w h : ℕ) (binned : Bool) → (open_of w h binned).answer ≡ Taken → coverage_of (open_of w h binned).board ≡ Covered
+  pub opened : (w h : ℕ) (binned : Bool) → (open_of w h binned).answer ≡ Ok tt → coverage_of (open_of w h binned).board ≡ Ok true
   -- in a list of calls with no taken Update, Covered says so of the board that each call gets, and no word of any frame is false
-  pub frames : (w h : ℕ) (binned : Bool) → (open_of w h binned).answer ≡ Taken → (calls : List Call)
+  pub frames : (w h : ℕ) (binned : Bool) → (open_of w h binned).answer ≡ Ok tt → (calls : List Call)
       → Every NoTakenUpdate (played w h binned calls)
       → Every (λ m. SaidCovered m × NoFalseWord m) (played w h binned calls)
   -- such a list can read out any N × M readings in range, in any cut into Feeds
-  pub reached : (w h : ℕ) (binned : Bool) → (open_of w h binned).answer ≡ Taken
+  pub reached : (w h : ℕ) (binned : Bool) → (open_of w h binned).answer ≡ Ok tt
       → (cut : List (List ℕ)) → length (joined cut) ≡ defaults.samples * (w * h) → every reading_in_range (joined cut) ≡ true
       → (list : Reached w h binned defaults cut) × Every NoTakenUpdate (played w h binned list.calls)
 
@@ -210,7 +209,7 @@ pub record Demands : Type 1 where
   pub demand_3 : Demand3
   pub honest : Always Honest
   -- for all sides and binning that Open takes, all settings in range, and all N × M readings in range, in any cut into Feeds: a list reads them out
-  pub reached : (w h : ℕ) (binned : Bool) → (open_of w h binned).answer ≡ Taken
+  pub reached : (w h : ℕ) (binned : Bool) → (open_of w h binned).answer ≡ Ok tt
       → (s : Settings) → in_range s ≡ true
       → (cut : List (List ℕ)) → length (joined cut) ≡ s.samples * (w * h) → every reading_in_range (joined cut) ≡ true
       → Reached w h binned s cut

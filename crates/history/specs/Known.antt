@@ -1,5 +1,6 @@
 -- Ramps with known words, in one table that one statement covers.
-use Rattle.std.specs.Prelude.{ℕ, Bool, true, false, List, [], ◌∷◌, ◌≡◌, ℤ, pos, neg_ℤ, replicate, set}
+use Rattle.std.specs.Prelude.{ℕ, Bool, true, false, List, [], ◌∷◌, ◌≡◌, ℤ, pos, neg_ℤ, replicate, set, Ok}
+use Rattle.laws.specs.Tables.{AllHold}
 use Rattle.settings.specs.declared.Settings.{Settings}
 use Rattle.settings.specs.Settings.{defaults, with_weights, with_threshold, with_truncation, with_samples}
 use Rattle.settings.specs.Covered.{is_covered}
@@ -23,13 +24,9 @@ Holds (ramp s readings sum entry word reads covered) =
     (exact_sum s s.samples (reading_of 1 readings 0) ≡ sum)
     × ((old : ℤ) → sums_after s 0 readings (old ∷ []) ≡ entry ∷ [])
     × (word_of s.truncation (entry ∷ []) ≡ word)
-    × (read_word s.truncation word ≡ reads)
+    × (read_word s.truncation word ≡ Ok reads)
     × (is_covered s ≡ covered)
-Holds (square entries word reads) = (word_of defaults.truncation entries ≡ word) × (read_word defaults.truncation word ≡ reads)
-
-abbrev pub AllHold : List Known → Type 0
-AllHold [] = Unit {0}
-AllHold (row ∷ rows) = Holds row × AllHold rows
+Holds (square entries word reads) = (word_of defaults.truncation entries ≡ word) × (read_word defaults.truncation word ≡ Ok reads)
 
 -- the defaults, save for N = 1 and weight 1
 abbrev single : ℤ → Settings
@@ -59,4 +56,4 @@ table =
 
 -- every row follows from the definitions
 abbrev pub AllKnown : Type 0
-AllKnown = AllHold table
+AllKnown = AllHold Holds table

@@ -10,7 +10,7 @@ use Rattle.history.specs.Calls.{Ledger}
 
 -- M
 abbrev pub area : Ledger → ℕ
-area ℓ = ℓ.width * ℓ.height
+area ℓ = ℓ.sides.width * ℓ.sides.height
 
 -- the reading of pixel p at sample n
 abbrev pub reading_at : Ledger → ℕ → ℕ → ℕ
@@ -18,11 +18,11 @@ reading_at ℓ p = reading_of (area ℓ) ℓ.readings p
 
 -- how many words the frame has
 abbrev pub words : Ledger → ℕ
-words ℓ = word_count ℓ.binned (area ℓ)
+words ℓ = word_count ℓ.sides.binned (area ℓ)
 
 -- the pixels of word j
 abbrev pub pixels : Ledger → ℕ → List ℕ
-pixels ℓ j = pixels_of ℓ.width ℓ.binned j
+pixels ℓ j = pixels_of ℓ.sides.width ℓ.sides.binned j
 
 -- the exact sums of pixels, over all N samples
 abbrev pub exact_sums : Ledger → List ℕ → List ℤ

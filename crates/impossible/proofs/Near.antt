@@ -1,14 +1,16 @@
 -- Entries that are surely possible.
+--     every_fold           a flag over a whole list
 --     Bound, bound_more    its bits are among those of all, for each entry before i; and for one more
 --     together             the bits of four more
+--     row_at, rows_end     an element of each of four lists of one length; and how many there are
 --     bound_near           at the end: where the bits of all are near, each entry is
 --     every_possible       and what is near is possible, where the nearness is within the bounds of a sum
 --     quarters_possible    four parts that are near, and the rest that is possible
 use Prim.Native.Nat.{ℕ, suc, ◌+◌, ◌-◌, ◌*◌, ◌<◌, ◌≤◌}
 use mathlib.Core.Bool.{Bool, true, false, ◌&&◌}
-use mathlib.Core.List.{List}
+use mathlib.Core.List.{List, [], ◌∷◌}
 use mathlib.Core.Logic.{inl, inr, ⊎_elim}
-use mathlib.Core.Path.{◌≡◌, refl, sym, ◌∙◌}
+use mathlib.Core.Path.{◌≡◌, refl, sym, ap, ◌∙◌}
 use native.Mathlib.Nat.{eq-or-lt_of_le}
 use native.Mathlib.Omega.{arith}
 use borrow.Author.Tests.{ltb-true, ltb-false}
@@ -19,16 +21,24 @@ use lib.ListN.{length, get_or, take, drop}
 use lib.Signed.{le_z, lt_z}
 use mir.Syntax.{w32}
 use mir.Val.{SFits, sel, to_z, of_z}
+use Rattle.std.proofs.lemmas.List.{get_or_default}
+use Rattle.std.proofs.lemmas.Slice.Zip.{length-zip, get_or-zip}
+use Rattle.std.specs.List.{fold, zip}
 use Rattle.laws.specs.Lists.{every}
 use Rattle.laws.proofs.Bits.{or_above}
 use Rattle.laws.proofs.Every.{every_at, every_all}
 use Rattle.laws.proofs.Quarters.{Four, quarters}
-use Rattle.laws.proofs.Tests.{clash, cases, and_true, true_and}
+use Rattle.laws.proofs.Tests.{clash, cases, and_true, true_and, and_right, and_assoc}
 use Rattle.laws.proofs.Ints.{up, dn, sum, neg_up, neg_dn, is_le, is_lt, lt_true, fitted, signed}
 use Rattle.entries.specs.Mark.{mark, marked}
 use Rattle.entries.specs.Possible.{max_product, possible_after}
 use Rattle.impossible.specs.Near.{moved, is_near, nearness}
 use Rattle.entries.proofs.Possible.{is_fair}
+
+pub every_fold : {A : Type 0} (f : A → Bool) (ok : Bool) (l : List A) → fold (λ good x. good && f x) ok l ≡ (ok && every f l)
+unfolding every
+every_fold f ok [] = sym (and_right ok)
+every_fold f ok (x ∷ l) = every_fold f (ok && f x) l ∙ and_assoc ok (f x) (every f l)
 
 -- the bits of four more
 pub together : (b x y u v : ℕ) → let all = bit_or b (bit_or (bit_or x y) (bit_or u v)) in (b ≤ all) × (x ≤ all) × (y ≤ all) × (u ≤ all) × (v ≤ all)
@@ -37,6 +47,31 @@ together b x y u v =
   where
     rest : {p q r s : ℕ} → (b ≤ s) × (r ≤ s) → (p ≤ r) × (q ≤ r) → (x ≤ p) × (y ≤ p) → (u ≤ q) × (v ≤ q) → (b ≤ s) × (x ≤ s) × (y ≤ s) × (u ≤ s) × (v ≤ s)
     rest h k l m = omega arith
+
+abbrev Row : Type 0
+Row = (ℤ × ℤ) × (ℤ × ℤ)
+
+module _ (a b c d : List ℤ) (i : ℕ) where
+  abbrev rows : List Row
+  rows = zip (zip a b) (zip c d)
+
+  rows_length : length b ≡ length a → length c ≡ length a → length d ≡ length a → length rows ≡ length a
+  rows_length h k l = length-zip (zip a b) (zip c d) ∙ rw (length-zip a b, length-zip c d, h, k, l) (omega arith)
+
+  pub row_at : (row : Row) → length b ≡ length a → length c ≡ length a → length d ≡ length a → i < length rows → row ≡ get_or rows i row
+      → (i < length a) × (row.0.0 ≡ get_or a i (pos 0)) × (row.0.1 ≡ get_or b i (pos 0)) × (row.1.0 ≡ get_or c i (pos 0)) × (row.1.1 ≡ get_or d i (pos 0))
+  row_at row h k l low e =
+      let n = rows_length h k l in
+      let p : i < length (zip a b) = rw (length-zip a b) (omega arith) in
+      let q : i < length (zip c d) = rw (length-zip c d) (omega arith) in
+      let whole : row ≡ get_or rows i ((pos 0, pos 0), (pos 0, pos 0)) = e ∙ get_or_default rows i row ((pos 0, pos 0), (pos 0, pos 0)) low in
+      let parts = whole ∙ get_or-zip (zip a b) (zip c d) i ((pos 0, pos 0), (pos 0, pos 0)) p q in
+      let first = ap (λ (r : Row). r.0) parts ∙ get_or-zip a b i (pos 0, pos 0) (omega arith) (omega arith) in
+      let second = ap (λ (r : Row). r.1) parts ∙ get_or-zip c d i (pos 0, pos 0) (omega arith) (omega arith) in
+      (omega arith, ap (λ (r : ℤ × ℤ). r.0) first, ap (λ (r : ℤ × ℤ). r.1) first, ap (λ (r : ℤ × ℤ). r.0) second, ap (λ (r : ℤ × ℤ). r.1) second)
+
+  pub rows_end : length b ≡ length a → length c ≡ length a → length d ≡ length a → i ≡ length rows → length a ≤ i
+  rows_end h k l e = omega (arith, rows_length h k l)
 
 module _ (gap near : ℤ) where
   -- the parts of a moved entry

@@ -2,7 +2,7 @@
 use mathlib.Core.Path.{refl}
 use Rattle.laws.proofs.Tables.{◌then◌}
 use Rattle.checks.specs.Checks.{verdict}
-use Rattle.board.specs.Board.{sides_taken}
+use Rattle.sides.specs.Sides.{sides_taken}
 use Rattle.pairs.specs.Pairs.{pairs}
 use Rattle.input.specs.Known.{AllKnown}
 

@@ -1,8 +1,8 @@
 -- The checks of an input.
 use Rattle.std.specs.Prelude.{ℕ, ◌+◌, ◌*◌, ◌%◌, not, List, [], ◌∷◌, ltb, eqb}
-use Rattle.checks.specs.declared.Answer.{Answer}
-use Rattle.checks.specs.Checks.{when}
-use Rattle.board.specs.Board.{sides_taken}
+use Rattle.checks.specs.declared.Reason.TheVariants.{BadSides, BadInput, TooManyPixels}
+use Rattle.checks.specs.Checks.{Answer, when}
+use Rattle.sides.specs.Sides.{sides_taken}
 use Rattle.input.specs.Input.{width_of, height_of, binned_byte, is_binned, readings_at, max_pixels}
 
 abbrev pub area : List ℕ → ℕ
@@ -13,10 +13,10 @@ area bytes = width_of bytes * height_of bytes
 -- record are one even, one odd. Then 1, as Open gives it. Then 18: more than 1,024 pixels
 abbrev pub input_checks : List ℕ → ℕ → List Answer
 input_checks bytes total =
-    when (ltb total 6) 17
-    ∷ when (ltb 1 (binned_byte bytes)) 17
-    ∷ when (ltb total (readings_at bytes)) 17
-    ∷ when (eqb ((total + readings_at bytes) % 2) 1) 17
-    ∷ when (not (sides_taken (width_of bytes) (height_of bytes) (is_binned bytes))) 1
-    ∷ when (ltb max_pixels (area bytes)) 18
+    when (ltb total 6) BadInput
+    ∷ when (ltb 1 (binned_byte bytes)) BadInput
+    ∷ when (ltb total (readings_at bytes)) BadInput
+    ∷ when (eqb ((total + readings_at bytes) % 2) 1) BadInput
+    ∷ when (not (sides_taken (width_of bytes) (height_of bytes) (is_binned bytes))) BadSides
+    ∷ when (ltb max_pixels (area bytes)) TooManyPixels
     ∷ []

@@ -1,9 +1,9 @@
 -- What comes of a job's checks.
 --     Handed, handed     what the chain of the frame is handed
---     few_words, zeros   of the buffers
+--     few_words, board_words, zeros   of the buffers
 --     answer_is, words_are         what comes of a job, from the first of its readings
 --     overlong_is, overlong_refused     and where its record is too long
---     turned_down, carried         the result of a refused job, and of a taken one
+--     turned_down, begun_refused, carried         the result of a refused job, and of a taken one
 use Prim.Native.Nat.{ℕ, zero, suc, ◌*◌, ◌≤◌, ◌<◌}
 use mathlib.Core.Bool.{Bool, true, false}
 use mathlib.Core.List.{List, [], ◌∷◌, ◌++◌}
@@ -11,21 +11,27 @@ use mathlib.Core.Path.{◌≡◌, refl, sym, ◌∙◌}
 use native.Mathlib.Omega.{arith}
 use lib.IntN.{ℤ, pos}
 use lib.ListN.{length, take, replicate}
-use lib.Seq.{take_at}
+use Rattle.checks.specs.declared.Reason.TheVariants.{RecordLength}
 use Rattle.checks.specs.declared.Refusal.{Refusal}
-use Rattle.checks.specs.declared.Answer.{Answer}
-use Rattle.checks.specs.declared.Answer.TheVariants.{Taken, Refused}
-use Rattle.checks.specs.Checks.{refusal, first, verdict, by_answer}
-use Rattle.checks.proofs.Laws.{first_taken, verdict_append}
+use Rattle.std.specs.Prelude.{Ok, Err}
+use Rattle.checks.specs.Checks.{Answer, refusal, first, verdict, by_answer}
+use Rattle.checks.proofs.Laws.{first_taken, verdict_append, both_taken}
 use Rattle.record.specs.Record.{map_of}
 use Rattle.update.proofs.Overlong.{longest}
 use Rattle.encoding.specs.Frame.{word_count}
+use Rattle.board.specs.declared.Board.{Board}
+use Rattle.board.specs.Board.{of_taken_sides}
+use Rattle.board.specs.Open.{open_of}
+use Rattle.operations.proofs.Laws as OperationLaws
+use Rattle.begin.specs.Begun.{updated, started, begun}
+use Rattle.begin.proofs.Beginning.{begun_then, begun_sides}
 use Rattle.whole_frame.specs.Chain.{frame_answer, frame_words}
 use Rattle.whole_frame.proofs.Enough.{refused_last, overlong_checks, overlong_answer_lem, enough_answer, enough_words}
 use Rattle.input.specs.Input.{width_of, height_of, is_binned, record_of, readings_of, max_pixels, max_readings}
 use Rattle.input.specs.Checks.{area, input_checks}
 use Rattle.input.proofs.Checking.{few_pixels}
-use Rattle.job.specs.Job.{zero_sums, zero_words, job_answer, job_words, columns_of, truncation_of, refused_job, Result}
+use Rattle.job.specs.declared.Job.{Job}
+use Rattle.job.specs.Job.{zero_sums, zero_words, job_answer, job_words, columns_of, truncation_of, result_of}
 
 -- the frame of an input with other readings
 abbrev pub answer_of : List ℕ → List ℕ → Answer
@@ -36,7 +42,7 @@ words_of bytes readings = frame_words (width_of bytes) (height_of bytes) (is_bin
 
 -- the frame's answer to a record that is too long
 abbrev overlong_answer : ℕ → ℕ → Bool → ℕ → Answer
-overlong_answer w h binned map = verdict (overlong_checks w h binned map ++ Refused (refusal 4) ∷ [])
+overlong_answer w h binned map = verdict (overlong_checks w h binned map ++ Err (refusal RecordLength) ∷ [])
 
 -- as many readings as matter
 abbrev pub first_readings : List ℕ → List ℕ
@@ -62,6 +68,18 @@ pub few_words : (binned : Bool) (m : ℕ) → m ≤ max_pixels → word_count bi
 few_words false m h = h
 few_words true m h = omega arith
 
+-- of the board that a job begins, Read out wants as many words as the job's frame has
+pub board_words : (w h : ℕ) (binned : Bool) (bytes : List ℕ) (b : Board) → ((begun w h binned bytes).answer ≡ Ok tt) × ((started w h binned bytes).board ≡ b)
+    → of_taken_sides b (word_count b.sides.binned (b.sides.width * b.sides.height)) ≡ word_count binned (w * h)
+unfolding open_of verdict
+board_words w h binned bytes b (t, e) =
+    let stay = (OperationLaws.laws).sides_stay in
+    let o : (open_of w h binned).answer ≡ Ok tt = (both_taken (open_of w h binned).answer _ t).0 in
+    let of_open : (open_of w h binned).board.sides ≡ record { width = w; height = h; binned = binned } = rw o refl in
+    let same : (started w h binned bytes).board.sides ≡ record { width = w; height = h; binned = binned } =
+    stay.start (updated w h binned bytes).board ∙ stay.update (open_of w h binned).board bytes ∙ of_open in
+    rw (← e, begun_sides w h binned bytes t, same) refl
+
 pub zeros : {A : Type 0} (z : A) (n k : ℕ) → n ≤ k → take n (replicate k z) ≡ replicate n z
 zeros z zero k h = refl
 zeros z (suc n) zero h = absurd (omega arith)
@@ -69,7 +87,7 @@ zeros z (suc n) (suc k) h = rw (zeros z n k (omega arith))
 
 module _ (bytes : List ℕ) (total : ℕ) where
   -- the first readings are more than a taken input's frame wants
-  many : verdict (input_checks bytes total) ≡ Taken → 9 * area bytes < max_readings
+  many : verdict (input_checks bytes total) ≡ Ok tt → 9 * area bytes < max_readings
   many e = omega (arith, few_pixels bytes total e)
 
   chain : job_answer bytes total ≡ first (verdict (input_checks bytes total)) (answer_of bytes (readings_of bytes))
@@ -80,8 +98,8 @@ module _ (bytes : List ℕ) (total : ℕ) where
   answer_is = chain ∙ by (verdict (input_checks bytes total)) refl
     where
       by : (v : Answer) → verdict (input_checks bytes total) ≡ v → first v (answer_of bytes (readings_of bytes)) ≡ first v (answer_of bytes (first_readings bytes))
-      by Taken e = sym (enough_answer _ _ _ _ _ _ max_readings (many e) (readings_of bytes))
-      by (Refused r) e = refl
+      by (Ok tt) e = sym (enough_answer _ _ _ _ _ _ max_readings (many e) (readings_of bytes))
+      by (Err r) e = refl
 
   pub words_are : job_words bytes total ≡ by_answer (job_answer bytes total) (words_of bytes (first_readings bytes)) []
   unfolding job_words
@@ -90,8 +108,8 @@ module _ (bytes : List ℕ) (total : ℕ) where
       by : (v : Answer) → verdict (input_checks bytes total) ≡ v
           → by_answer (first v (answer_of bytes (readings_of bytes))) (words_of bytes (readings_of bytes)) []
           ≡ by_answer (first v (answer_of bytes (readings_of bytes))) (words_of bytes (first_readings bytes)) []
-      by Taken e = rw (enough_words (width_of bytes) (height_of bytes) (is_binned bytes) (record_of bytes) (zero_sums bytes) (zero_words bytes) max_readings (many e) (readings_of bytes))
-      by (Refused r) e = refl
+      by (Ok tt) e = rw (enough_words (width_of bytes) (height_of bytes) (is_binned bytes) (record_of bytes) (zero_sums bytes) (zero_words bytes) max_readings (many e) (readings_of bytes))
+      by (Err r) e = refl
 
   -- a record that is too long is refused, with any readings
   module _ (long : longest < length (record_of bytes)) where
@@ -100,33 +118,28 @@ module _ (bytes : List ℕ) (total : ℕ) where
 
     pub overlong_refused : {A : Type 0} (new old : A) → by_answer (job_answer bytes total) new old ≡ old
     unfolding verdict
-    overlong_refused new old = rw overlong_is (refused_last (verdict (input_checks bytes total) ∷ overlong_checks (width_of bytes) (height_of bytes) (is_binned bytes) (map_of (record_of bytes))) (refusal 4) new old)
+    overlong_refused new old = rw overlong_is (refused_last (verdict (input_checks bytes total) ∷ overlong_checks (width_of bytes) (height_of bytes) (is_binned bytes) (map_of (record_of bytes))) (refusal RecordLength) new old)
 
-  pub turned_down : (r : Refusal) → job_answer bytes total ≡ Refused r → Result bytes total (refused_job (Refused r))
-  unfolding job_words
-  turned_down r e = record {
-    answer = sym e;
-    words = rw e;
-    count = rw e;
-    columns = rw e;
-    truncation = rw e;
-  }
+  pub turned_down : (r : Refusal) → job_answer bytes total ≡ Err r → result_of bytes total ≡ Err r
+  unfolding result_of
+  turned_down r e = rw e
 
-  pub carried : (answer : Answer) (words rest : List ℕ) (count columns truncation : ℕ)
-      → answer ≡ job_answer bytes total
-      → answer ≡ Taken
-      → words ≡ words_of bytes (first_readings bytes)
-      → length words ≡ count
-      → columns ≡ columns_of bytes
-      → truncation ≡ truncation_of bytes
-      → Result bytes total (record { answer = answer; count = count; columns = columns; truncation = truncation; words = words ++ rest })
-  carried answer words rest count columns truncation e t w l c r =
-      let a : job_answer bytes total ≡ Taken = sym e ∙ t in
-      let v : words ≡ job_words bytes total = w ∙ sym (words_are ∙ rw a) in
-      record {
-        answer = e;
-        words = take_at words rest count l ∙ v;
-        count = rw (← v) (sym l);
-        columns = rw a c;
-        truncation = rw a r;
-      }
+  pub carried : (job : Job)
+      → job_answer bytes total ≡ Ok tt
+      → job.words.items ≡ words_of bytes (first_readings bytes)
+      → job.columns ≡ columns_of bytes
+      → job.truncation ≡ truncation_of bytes
+      → Ok job ≡ result_of bytes total
+  unfolding result_of
+  carried job a w c r =
+      let v : job.words.items ≡ job_words bytes total = w ∙ sym (words_are ∙ rw a) in
+      rw (a, ← v, ← c, ← r)
+
+  -- what Open, Update and Start refuse
+  pub begun_refused : (r : Refusal) → verdict (input_checks bytes total) ≡ Ok tt
+      → (begun (width_of bytes) (height_of bytes) (is_binned bytes) (record_of bytes)).answer ≡ Err r
+      → result_of bytes total ≡ Err r
+  unfolding frame_answer
+  begun_refused r t e =
+      let a : answer_of bytes (first_readings bytes) ≡ Err r = begun_then (width_of bytes) (height_of bytes) (is_binned bytes) (record_of bytes) _ ∙ rw e in
+      turned_down r (answer_is ∙ rw (t, a))

@@ -14,7 +14,8 @@ use Rattle.step.specs.Step.{step}
 use Rattle.sums.specs.Feed.{feed_one, feed_all}
 use Rattle.encoding.specs.Word.{smallest_mark, is_negative}
 use Rattle.encoding.specs.Frame.{pixels_of, word_at, frame_of}
-use Rattle.board.specs.Board.{sides_taken, sound}
+use Rattle.sides.specs.Sides.{sides_taken}
+use Rattle.board.specs.Board.{sound}
 use Rattle.board.specs.Open.{open_of}
 use Rattle.operations.specs.Update.{update_of}
 use Rattle.operations.specs.Ramp.{start_of}

@@ -1,7 +1,7 @@
 -- The laws of jobs.
 use Prim.Native.Nat.{ℕ, ◌+◌, ◌-◌, ◌*◌, ◌≤◌, ◌<◌}
 use mathlib.Core.List.{List, []}
-use mathlib.Core.Path.{◌≡◌, refl, sym, ap, ◌∙◌}
+use mathlib.Core.Path.{◌≡◌, refl, sym, ◌∙◌}
 use borrow.Author.Tests.{ltb-true, ltb-false}
 use native.Mathlib.Omega.{arith}
 use lib.Dec.{ltb}
@@ -9,7 +9,9 @@ use lib.ListN.{length, get_or, take, drop, length-take, length-drop}
 use lib.Seq.{take_all, get_or-take, take-take}
 use Rattle.laws.proofs.Tests.{cases}
 use Rattle.laws.proofs.Parts.{part_at}
-use Rattle.checks.specs.Checks.{by_answer}
+use Rattle.std.specs.Prelude.{Result, Ok, Err}
+use Rattle.checks.specs.declared.Refusal.{Refusal}
+use Rattle.checks.specs.Checks.{Answer, by_answer, or_refused}
 use Rattle.begin.specs.Begun.{started}
 use Rattle.whole_frame.specs.Chain.{frame_answer, frame_words}
 use Rattle.pairs.specs.Pairs.{pairs}
@@ -19,10 +21,18 @@ use Rattle.input.specs.Checks.{input_checks}
 use Rattle.job.specs.declared.Job.{Job}
 use Rattle.update.proofs.Overlong.{longest}
 use Rattle.job.specs.Kept.{capacity}
-use Rattle.job.specs.Job.{zero_sums, zero_words, job_answer, job_words, truncation_of, Result}
+use Rattle.job.specs.Job.{zero_sums, zero_words, job_answer, job_words, truncation_of, result_of}
 use Rattle.job.specs.Laws.{JobLaws}
 use Rattle.job.proofs.Parts.{drop_take}
 use Rattle.job.proofs.Jobs.{Handed, handed, first_readings, answer_is, words_are, overlong_is, overlong_refused}
+
+-- results of the same answer, words, columns and r
+same_results : {a b : Answer} {c d : ℕ} {v w : List ℕ} (r s : ℕ) → a ≡ b → (x : Answer) → b ≡ x → c ≡ d → by_answer b r 0 ≡ by_answer b s 0 → v ≡ w
+    → ◌≡◌ {A = Result Job Refusal}
+    (or_refused a (record { columns = c; truncation = r; words = record { items = v } }))
+    (or_refused b (record { columns = d; truncation = s; words = record { items = w } }))
+same_results r s e (Ok tt) is c t w = let k : r ≡ s = rw is at t in rw (e, is, c, k, w)
+same_results r s e (Err f) is c t w = rw (e, is)
 
 -- the first readings lie in the first bytes
 within : (n m : ℕ) (l : List ℕ) → 2 * n ≤ m → take n (pairs (take m l)) ≡ take n (pairs l)
@@ -106,16 +116,9 @@ module _ (bytes : List ℕ) (total n : ℕ) (room : capacity ≤ n) where
       (λ m. cases (ltb 255 (record_length bytes)) (λ e. long_record (ltb-true _ _ e) (ltb-true _ _ m)) (λ e. byte_record (ltb-false _ _ e)))
       (λ m. let e = take_all n bytes (ltb-false _ _ m) in record { answer = rw e; words = rw e; truncation = rw e })
 
-  carried_over : (job : Job) → Result (take n bytes) total job → Result bytes total job
-  carried_over job r =
-      let s = settled in
-      record {
-        answer = r.answer ∙ s.answer;
-        words = r.words ∙ s.words;
-        count = r.count ∙ ap length s.words;
-        columns = rw (s.answer, width_is, flag_is) at r.columns;
-        truncation = r.truncation ∙ rw s.answer s.truncation;
-      }
+  carried_over : result_of (take n bytes) total ≡ result_of bytes total
+  unfolding result_of
+  carried_over = let s = settled in same_results _ _ s.answer (job_answer bytes total) refl (rw (width_is, flag_is)) s.truncation s.words
 
 pub laws : JobLaws
 laws = record { prefix = λ bytes. carried_over bytes (length bytes) capacity (omega arith) }

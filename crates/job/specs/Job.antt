@@ -1,11 +1,11 @@
 -- What comes of a job.
-use Rattle.std.specs.Prelude.{ℕ, ◌/◌, cond, List, [], ◌∷◌, ◌++◌, ◌≡◌, ℤ, pos, length, take, replicate}
-use Rattle.checks.specs.declared.Answer.{Answer}
-use Rattle.checks.specs.Checks.{verdict, by_answer}
+use Rattle.std.specs.Prelude.{ℕ, ◌/◌, cond, List, [], ◌∷◌, ◌++◌, ℤ, pos, replicate, Result}
+use Rattle.checks.specs.declared.Refusal.{Refusal}
+use Rattle.checks.specs.Checks.{Answer, verdict, by_answer, or_refused}
 use Rattle.encoding.specs.Frame.{word_count}
 use Rattle.begin.specs.Begun.{started}
 use Rattle.whole_frame.specs.Chain.{frame_answer, frame_words}
-use Rattle.input.specs.Input.{width_of, height_of, is_binned, record_of, readings_of, max_pixels}
+use Rattle.input.specs.Input.{width_of, height_of, is_binned, record_of, readings_of}
 use Rattle.input.specs.Checks.{area, input_checks}
 use Rattle.job.specs.declared.Job.{Job}
 
@@ -41,15 +41,10 @@ columns_of bytes = cond (is_binned bytes) (width_of bytes / 2) (width_of bytes)
 abbrev pub truncation_of : List ℕ → ℕ
 truncation_of bytes = (started (width_of bytes) (height_of bytes) (is_binned bytes) (record_of bytes)).board.in_force.truncation
 
--- what stands for a refused job
-abbrev pub refused_job : Answer → Job
-refused_job answer = record { answer = answer; count = 0; columns = 0; truncation = 0; words = replicate max_pixels 0 }
+-- what a taken job gives
+abbrev pub job_of : List ℕ → ℕ → Job
+job_of bytes total = record { columns = columns_of bytes; truncation = truncation_of bytes; words = record { items = job_words bytes total } }
 
--- A job's result: the answer; the words, of which there are `count`; and, of a taken job, the words in a row and the r in force. What stands in the array past
--- the first `count` words is left free: the jig prints none of it.
-pub record Result (bytes : List ℕ) (total : ℕ) (job : Job) : Type 0 where
-  pub answer : job.answer ≡ job_answer bytes total
-  pub words : take job.count job.words ≡ job_words bytes total
-  pub count : job.count ≡ length (job_words bytes total)
-  pub columns : job.columns ≡ by_answer (job_answer bytes total) (columns_of bytes) 0
-  pub truncation : job.truncation ≡ by_answer (job_answer bytes total) (truncation_of bytes) 0
+-- a job's result: the words, the words in a row and the r in force; or the refusal
+unfoldable pub result_of : List ℕ → ℕ → Result Job Refusal
+result_of bytes total = or_refused (job_answer bytes total) (job_of bytes total)

@@ -1,8 +1,8 @@
 -- Jobs with known results, in one table that one statement covers. The bytes are hexadecimal.
-use Rattle.std.specs.Prelude.{ℕ, List, [], ◌∷◌, ◌≡◌, length}
+use Rattle.std.specs.Prelude.{ℕ, List, [], ◌∷◌, ◌≡◌, length, Ok, Err}
 use Rattle.laws.specs.Tables.{AllHold}
+use Rattle.checks.specs.declared.Reason.TheVariants.{ShortRecord, ReadingRange, BadInput}
 use Rattle.checks.specs.declared.Refusal.{Refusal}
-use Rattle.checks.specs.declared.Answer.TheVariants.{Taken, Refused}
 use Rattle.checks.specs.Checks.{refusal}
 use Rattle.job.specs.Job.{job_answer, job_words, columns_of, truncation_of}
 
@@ -14,11 +14,11 @@ pub data Known : Type 0 where
 -- a row follows from the definitions
 abbrev pub Holds : Known → Type 0
 Holds (taken bytes words columns r) =
-    (job_answer bytes (length bytes) ≡ Taken)
+    (job_answer bytes (length bytes) ≡ Ok tt)
     × (job_words bytes (length bytes) ≡ words)
     × (columns_of bytes ≡ columns)
     × (truncation_of bytes ≡ r)
-Holds (refused bytes why) = job_answer bytes (length bytes) ≡ Refused why
+Holds (refused bytes why) = job_answer bytes (length bytes) ≡ Err why
 
 -- two pixels in a row, threshold 16,383, one sample of weight 1, the readings 0 and 16,383
 unfoldable pub pixels : List ℕ
@@ -51,9 +51,9 @@ abbrev pub table : List Known
 table =
     taken pixels (32 ∷ 4127 ∷ []) 2 2
     ∷ taken squares (16 ∷ 32753 ∷ 32767 ∷ 3 ∷ []) 2 3
-    ∷ refused record_missing (refusal 2)
-    ∷ refused odd_byte (refusal 17)
-    ∷ refused reading_too_large (record { number = 13; place = 1 })
+    ∷ refused record_missing (refusal ShortRecord)
+    ∷ refused odd_byte (refusal BadInput)
+    ∷ refused reading_too_large (record { reason = ReadingRange; place = 1 })
     ∷ []
 
 -- every row follows from the definitions

@@ -1,28 +1,16 @@
 -- The laws of `every`.
---     every_flag, every_done      a loop that keeps a flag: the flag, and what is left of the list from i on
 --     every_at, every_all         an element, and all of them
 --     every_drop, every_take      a part
-use mathlib.Core.Path.{◌≡◌, refl, sym}
-use mathlib.Core.Bool.{Bool, true, ◌&&◌}
+use mathlib.Core.Path.{◌≡◌, refl}
+use mathlib.Core.Bool.{Bool, true}
 use mathlib.Core.List.{List, [], ◌∷◌}
-use Prim.Native.Nat.{ℕ, zero, suc, ◌+◌, ◌<◌, ◌≤◌}
-use native.Mathlib.Numerals.{add-one}
+use Prim.Native.Nat.{ℕ, zero, suc, ◌<◌}
 use native.Mathlib.Omega.{arith}
-use lib.ListN.{length, get_or, take, drop, drop_of_length-le}
-use lib.Seq.{drop-cons}
+use lib.ListN.{length, get_or, take, drop}
 use Rattle.laws.specs.Lists.{every}
-use Rattle.laws.proofs.Tests.{and_true, true_and, and_right, and_assoc}
+use Rattle.laws.proofs.Tests.{and_true, true_and}
 
 module _ {A : Type 0} (f : A → Bool) where
-  module _ (l : List A) (i : ℕ) where
-    pub every_flag : (d : A) → i < length l → (ok b : Bool) → b ≡ f (get_or l i d) → (ok && every f (drop i l)) ≡ (ok && b && every f (drop (i + 1) l))
-    unfolding every
-    every_flag d h ok b e = rw (add-one, drop-cons l i d h, e) (sym (and_assoc ok (f (get_or l i d)) (every f (drop (suc i) l))))
-
-    pub every_done : length l ≤ i → (ok : Bool) → (ok && every f (drop i l)) ≡ ok
-    unfolding every
-    every_done h ok = rw (drop_of_length-le l h) (and_right ok)
-
   pub every_at : (l : List A) → every f l ≡ true → (d : A) (j : ℕ) → j < length l → f (get_or l j d) ≡ true
   unfolding every
   every_at [] e d j h = absurd (omega arith)

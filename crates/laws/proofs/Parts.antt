@@ -9,13 +9,9 @@ use Prim.Native.Nat.{ℕ, zero, suc, ◌+◌, ◌≤◌, ◌<◌}
 use native.Mathlib.Omega.{arith}
 use lib.ListN.{length, get_or, take, drop, length-drop}
 use lib.Seq.{length-take-le, get_or-take, get_or-drop}
+pub use Rattle.std.specs.List.{AllByRecursion as All}
 
 module _ {A : Type 0} where
-  -- each element
-  abbrev pub All : (A → Type 0) → List A → Type 0
-  All P [] = Unit {0}
-  All P (x ∷ l) = P x × All P l
-
   pub part_length : (l : List A) (i k : ℕ) → i + k ≤ length l → length (take k (drop i l)) ≡ k
   part_length l i k h = length-take-le k (drop i l) (rw length-drop (omega arith))
 

@@ -1,19 +1,16 @@
 -- A test of each element, in four parts of one length at once.
 --     Four                 all of four lists
 --     four_flag            a loop that keeps a flag: the flag, and what is left of the four lists from i on
---     four_done            at the end
---     the_rest             what is left of a list, as a part
 --     quarters             a list is four parts of one length, and what is left over
 use mathlib.Core.Path.{◌≡◌, refl, sym}
 use mathlib.Core.Bool.{Bool, true, false, ◌&&◌}
 use mathlib.Core.List.{List, [], ◌∷◌}
-use Prim.Native.Nat.{ℕ, zero, suc, ◌+◌, ◌-◌, ◌<◌, ◌≤◌}
-use native.Mathlib.Nat.{le_refl}
+use Prim.Native.Nat.{ℕ, zero, suc, ◌+◌, ◌<◌}
 use native.Mathlib.Numerals.{add-one}
-use lib.ListN.{length, get_or, take, drop, length-drop, drop_of_length-le}
-use lib.Seq.{take_all, drop-cons, drop-drop}
+use lib.ListN.{length, get_or, take, drop}
+use lib.Seq.{drop-cons, drop-drop}
 use Rattle.laws.specs.Lists.{every}
-use Rattle.laws.proofs.Tests.{and_right, and_assoc}
+use Rattle.laws.proofs.Tests.{and_assoc}
 
 and_swap : (x p y q : Bool) → x && p && (y && q) ≡ x && y && (p && q)
 and_swap false p y q = refl
@@ -31,9 +28,6 @@ nest true false u v r = refl
 nest true true false v r = refl
 nest true true true v r = refl
 
-pub the_rest : {A : Type 0} (n : ℕ) (l : List A) → take (length l - n) (drop n l) ≡ drop n l
-the_rest n l = take_all (length l - n) (drop n l) (rw length-drop (le_refl (length l - n)))
-
 module _ {A : Type 0} (f : A → Bool) where
   abbrev pub Four : List A → List A → List A → List A → Bool
   Four a b c d = every f a && every f b && (every f c && every f d)
@@ -45,10 +39,6 @@ module _ {A : Type 0} (f : A → Bool) where
     unfolding every
     four_flag z h k l m ok x y u v e g n o =
         rw (add-one, drop-cons a i z h, drop-cons b i z k, drop-cons c i z l, drop-cons d i z m, e, g, n, o) (gather ok (f (get_or a i z)) (every f (drop (suc i) a)) (f (get_or b i z)) (every f (drop (suc i) b)) (f (get_or c i z)) (every f (drop (suc i) c)) (f (get_or d i z)) (every f (drop (suc i) d)))
-
-    pub four_done : length a ≤ i → length b ≤ i → length c ≤ i → length d ≤ i → (ok : Bool) → (ok && Four (drop i a) (drop i b) (drop i c) (drop i d)) ≡ ok
-    unfolding every
-    four_done h k l m ok = rw (drop_of_length-le a h, drop_of_length-le b k, drop_of_length-le c l, drop_of_length-le d m) (and_right ok)
 
   split : (n : ℕ) (l : List A) → every f l ≡ every f (take n l) && every f (drop n l)
   unfolding every

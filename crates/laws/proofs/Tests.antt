@@ -1,6 +1,6 @@
 -- Tests: what a conjunction or a disjunction says, and back; and reasoning by a test's value.
 use Prim.Native.Nat.{ℕ}
-use mathlib.Core.Bool.{Bool, true, false, not, ◌&&◌, ◌||◌}
+use mathlib.Core.Bool.{Bool, true, false, ◌&&◌, ◌||◌}
 use mathlib.Core.Logic.{◌⊎◌, inl, inr}
 use mathlib.Core.Path.{◌≡◌, refl}
 use native.Mathlib.Omega.{arith}
@@ -53,12 +53,3 @@ or_right false = refl
 pub or_false : (a : Bool) → a || false ≡ a
 or_false true = refl
 or_false false = refl
-
-pub not_or : (a b : Bool) → not (a || b) ≡ not a && not b
-not_or true b = refl
-not_or false b = refl
-
-pub not_or_not : (a b : Bool) → not (a || not b) ≡ not a && b
-not_or_not true b = refl
-not_or_not false true = refl
-not_or_not false false = refl

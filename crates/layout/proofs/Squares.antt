@@ -4,7 +4,7 @@
 use Prim.Native.Nat.{ℕ, ◌+◌, ◌*◌, ◌/◌, ◌%◌, ◌<◌, ◌≤◌}
 use mathlib.Core.Bool.{true}
 use mathlib.Core.List.{List}
-use mathlib.Core.Path.{◌≡◌}
+use mathlib.Core.Path.{◌≡◌, ap, ◌∙◌}
 use native.Mathlib.Nat.{mul_assoc, mul_left_comm, add-mul, one-mul}
 use native.Mathlib.Omega.{arith}
 use lib.IntN.{ℤ, pos}
@@ -15,20 +15,22 @@ use Rattle.encoding.specs.Frame.{pixels_of, word_at}
 use Rattle.encoding.proofs.Grid.{sides}
 use Rattle.layout.specs.Requires.{row_word}
 
-module _ (w h row i r at to : ℕ) (sums : List ℤ) (hw : w ≡ 2 * h) (hh : w / 2 ≡ h) (hi : i < h) (ht : to ≡ row * h) (ha : at ≡ 4 * to) where
-  even : 2 * row * w ≡ at
-  even = let e : row * w ≡ 2 * (row * h) = rw hw (mul_left_comm row 2 h) in omega (arith, mul_assoc 2 row w)
+module _ (w h row i r : ℕ) (sums : List ℤ) (hw : w ≡ 2 * h) (hh : w / 2 ≡ h) (hi : i < h) where
+  odd : (2 * row + 1) * w ≡ 2 * row * w + w
+  odd = omega (arith, add-mul (2 * row) 1 w, one-mul w)
 
-  odd : (2 * row + 1) * w ≡ at + w
-  odd = omega (arith, even, add-mul (2 * row) 1 w, one-mul w)
-
-  pub row_word_lem : row_word r (take w (drop at sums)) (take w (drop (at + w) sums)) i ≡ word_at w true r sums (to + i)
+  pub row_word_lem : row_word r (take w (drop (2 * row * w) sums)) (take w (drop (2 * row * w + w) sums)) i ≡ word_at w true r sums (row * h + i)
   unfolding word_at pixels_of
   row_word_lem =
-      rw (ht, hh, quotient h row i hi, rest h row i hi, even, odd)
+      let at = 2 * row * w in
+      rw (hh, quotient h row i hi, rest h row i hi, odd)
       (rw (part_at sums at w (2 * i) (pos 0) (omega arith), part_at sums at w (2 * i + 1) (pos 0) (omega arith), part_at sums (at + w) w (2 * i) (pos 0) (omega arith), part_at sums (at + w) w (2 * i + 1) (pos 0) (omega arith)))
 
 -- a whole row of squares is left
-pub row_left : (w h row at to n m : ℕ) → (w % 2 ≡ 0) × (h % 2 ≡ 0) → n ≡ w * h → m ≡ w * h / 4 → row < h / 2 → to ≡ row * (w / 2) → at ≡ 4 * to
-    → (w ≡ 2 * (w / 2)) × (to + w / 2 ≤ m) × (4 * (to + w / 2) ≤ n)
-row_left w h row at to n m e f g k t a = let s = sides w h e in let r = room row (h / 2) (w / 2) k in omega arith
+pub row_left : (w h row n m : ℕ) → (w % 2 ≡ 0) × (h % 2 ≡ 0) → n ≡ w * h → m ≡ w * h / 4 → row < h / 2
+    → (w ≡ 2 * (w / 2)) × (row * (w / 2) + w / 2 ≤ m) × (2 * row * w + w + w ≤ n)
+row_left w h row n m e f g k =
+    let s = sides w h e in
+    let r = room row (h / 2) (w / 2) k in
+    let d : row * w ≡ 2 * (row * (w / 2)) = ap (λ (x : ℕ). row * x) s.0 ∙ mul_left_comm row 2 (w / 2) in
+    omega (arith, mul_assoc 2 row w)

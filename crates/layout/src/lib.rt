@@ -1,4 +1,4 @@
-// The passes over a whole frame: which entries make which word.
+// The passes over a whole frame: which entries make which word. r is one of the settings' plain numbers: its range stands in each contract, here and in `words`.
 #![tactic(auto)]
 
 ghost use Rattle.std.specs.Prelude.{◌≡◌, true, false, ℕ, ◌*◌, pos, length, get_or};
@@ -8,17 +8,16 @@ ghost use Rattle.encoding.specs.Frame.{frame_of};
 ghost use Rattle.entries.specs.Range.{entry_in_range};
 ghost use Rattle.layout.specs.Requires.{Readable, row_word};
 
+use sides::Sides;
 use words::{pixel_word, square_word};
 
-// A word for each pixel.
-fn write_pixels(sums: &[i32], words: &mut [u16], width: usize, height: usize, truncation: u16)
-    requires { Readable width height false truncation sums.now words.old }
-    ensures { words.new ≡ frame_of width false truncation sums.now }
+// A word for each pixel. No zip here and below: of what is written through one a proof knows the length alone.
+fn write_pixels(sums: &[i32], words: &mut [u16], sides: Sides, truncation: u16)
+    requires { Readable sides.width sides.height false truncation sums.now words.old }
+    ensures { words.new ≡ frame_of sides.width false truncation sums.now }
 {
-    let mut i = 0;
-    while i < words.len() {
-        words[i] = pixel_word(sums[i], truncation);
-        i += 1;
+    for (i, word) in words.iter_mut().enumerate() {
+        *word = pixel_word(sums[i], truncation);
     }
 }
 
@@ -30,55 +29,40 @@ fn write_row(upper: &[i32], lower: &[i32], words: &mut [u16], truncation: u16)
     requires truncation_value { truncation_in_range truncation ≡ true }
     ensures { words.new ≡ each (row_word truncation upper.now lower.now) (length words.old) }
 {
-    let mut i = 0;
-    while i < words.len() {
+    for (i, word) in words.iter_mut().enumerate() {
         let k = 2 * i;
-        words[i] = square_word(upper[k], upper[k + 1], lower[k], lower[k + 1], truncation);
-        i += 1;
+        *word = square_word(upper[k], upper[k + 1], lower[k], lower[k + 1], truncation);
     }
 }
 
-// A word for each square, by pairs of rows.
-fn write_squares(sums: &[i32], words: &mut [u16], width: usize, height: usize, truncation: u16)
-    requires { Readable width height true truncation sums.now words.old }
-    ensures { words.new ≡ frame_of width true truncation sums.now }
+// A word for each square, by pairs of rows; by index, since chunks may not be empty and a width of 0 is not ruled out.
+fn write_squares(sums: &[i32], words: &mut [u16], sides: Sides, truncation: u16)
+    requires { Readable sides.width sides.height true truncation sums.now words.old }
+    ensures { words.new ≡ frame_of sides.width true truncation sums.now }
 {
+    let width = sides.width;
     let half = width / 2;
-    let rows = height / 2;
-    let mut row = 0;
-    let mut at = 0;
-    let mut to = 0;
-    while row < rows {
+    for row in 0..sides.height / 2 {
+        let at = 2 * row * width;
         let middle = at + width;
-        let end = middle + width;
-        let next = to + half;
+        let to = row * half;
         write_row(
             &sums[at..middle],
-            &sums[middle..end],
-            &mut words[to..next],
+            &sums[middle..middle + width],
+            &mut words[to..to + half],
             truncation,
         );
-        row += 1;
-        at = end;
-        to = next;
     }
 }
 
 // The frame of the sums, of pixels or of squares.
-pub fn write_frame(
-    sums: &[i32],
-    words: &mut [u16],
-    width: usize,
-    height: usize,
-    binned: bool,
-    truncation: u16,
-)
-    requires { Readable width height binned truncation sums.now words.old }
-    ensures { words.new ≡ frame_of width binned truncation sums.now }
+pub fn write_frame(sums: &[i32], words: &mut [u16], sides: Sides, truncation: u16)
+    requires { Readable sides.width sides.height sides.binned truncation sums.now words.old }
+    ensures { words.new ≡ frame_of sides.width sides.binned truncation sums.now }
 {
-    if binned {
-        write_squares(sums, words, width, height, truncation);
+    if sides.binned {
+        write_squares(sums, words, sides, truncation);
     } else {
-        write_pixels(sums, words, width, height, truncation);
+        write_pixels(sums, words, sides, truncation);
     }
 }

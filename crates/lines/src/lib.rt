@@ -1,62 +1,58 @@
-// The lines of a frame, in a buffer that the caller lends. What stands past them is left free.
+// The lines of a frame, at the end of a list of bytes.
 #![tactic(auto)]
 
-ghost use Rattle.std.specs.Prelude.{◌≡◌, ◌++◌, ◌+◌, ◌*◌, ◌≤◌, ◌<◌, length, take};
+ghost use Rattle.std.specs.Prelude.{◌≡◌, ◌++◌, ◌+◌, ◌*◌, ◌≤◌, ◌<◌, length};
+ghost use Rattle.arrayvec.specs.ArrayVec.{array_vec_len};
 ghost use Rattle.lines.specs.Lines.{field_text, line_text, lines_text};
 
+use arrayvec::ArrayVec;
 use meaning::read_word;
 use text::{put, put_meaning, put_number};
 
 // A number, and a space after it.
-fn put_field(out: &mut [u8], at: usize, n: u64) -> usize
-    requires { at + 21 ≤ length out.old }
-    ensures end { result ≤ at + 21 }
-    ensures text { take result out.new ≡ take at out.old ++ field_text n }
+fn put_field<const ROOM: usize>(out: &mut ArrayVec<u8, ROOM>, n: u64)
+    requires { array_vec_len out.old + 21 ≤ ROOM }
+    ensures end { array_vec_len out.new ≤ array_vec_len out.old + 21 }
+    ensures text { out.new.items ≡ out.old.items ++ field_text n }
 {
-    let a = put_number(out, at, n);
-    put(out, a, b" ")
+    put_number(out, n);
+    put(out, b" ");
 }
 
-// A word's line.
-fn put_line(
-    out: &mut [u8],
-    at: usize,
+// A word's line. No `From` of its place: the library has none of a `usize` for a `u64`.
+#[tactic(auto, using(text::proofs::Limits::whole_limits))]
+fn put_line<const ROOM: usize>(
+    out: &mut ArrayVec<u8, ROOM>,
     row: usize,
     column: usize,
     word: u16,
     truncation: u16,
-) -> usize
-    requires { at + 106 ≤ length out.old }
-    ensures end { result ≤ at + 106 }
-    ensures text { take result out.new ≡ take at out.old ++ line_text row column truncation word }
+)
+    requires { array_vec_len out.old + 106 ≤ ROOM }
+    ensures end { array_vec_len out.new ≤ array_vec_len out.old + 106 }
+    ensures text { out.new.items ≡ out.old.items ++ line_text row column truncation word }
 {
-    let a = put_field(out, at, row as u64);
-    let b = put_field(out, a, column as u64);
-    let c = put_field(out, b, word as u64);
-    let d = put_meaning(out, c, read_word(word, truncation));
-    put(out, d, b"\n")
+    put_field(out, row as u64);
+    put_field(out, column as u64);
+    put_field(out, u64::from(word));
+    put_meaning(out, read_word(word, truncation));
+    put(out, b"\n");
 }
 
-// The lines of the first `count` words, row by row.
-pub fn put_lines(
-    out: &mut [u8],
-    at: usize,
+// The lines of the words, row by row.
+#[tactic(auto, unfolding(crate::specs::Lines::lines_text))]
+pub fn put_lines<const ROOM: usize>(
+    out: &mut ArrayVec<u8, ROOM>,
     words: &[u16],
-    count: usize,
     columns: usize,
     truncation: u16,
-) -> usize
+)
     requires columns_nonzero { 0 < columns }
-    requires count_in_bounds { count ≤ length words.now }
-    requires room { at + count * 106 ≤ length out.old }
-    ensures end { result ≤ at + count * 106 }
-    ensures text { take result out.new ≡ take at out.old ++ lines_text columns truncation words.now count }
+    requires room { array_vec_len out.old + length words.now * 106 ≤ ROOM }
+    ensures end { array_vec_len out.new ≤ array_vec_len out.old + length words.now * 106 }
+    ensures text { out.new.items ≡ out.old.items ++ lines_text columns truncation words.now (length words.now) }
 {
-    let mut end = at;
-    let mut i = 0;
-    while i < count {
-        end = put_line(out, end, i / columns, i % columns, words[i], truncation);
-        i += 1;
+    for (i, word) in words.iter().enumerate() {
+        put_line(out, i / columns, i % columns, *word, truncation);
     }
-    end
 }

@@ -10,6 +10,7 @@ use lib.Ieee.Back.{round_whole}
 use lib.Ieee.Exact.{HasValue}
 use lib.Dec.{ltb}
 use lib.Pow.{pow_mono}
+use Rattle.std.specs.Prelude.{Ok}
 use Rattle.laws.proofs.Tests.{cases}
 use Rattle.settings.specs.Settings.{truncation_in_range}
 use Rattle.settings.proofs.Parts.{truncation_parts}
@@ -23,14 +24,14 @@ unfolding of_int
 exact n h = round_whole binary64 false n h
 
 module _ (r : ℕ) (in_r : truncation_in_range r ≡ true) where
-  reads : (w : ℕ) → read_word r w ≡ meaning r w
+  reads : (w : ℕ) → read_word r w ≡ Ok (meaning r w)
   unfolding read_word
   reads w = rw in_r
 
   limits_exact : (w : ℕ) → w < 32752
       → let lo = w * 2 ^ r in
       let hi = (w + 1) * 2 ^ r in
-      (read_word r w ≡ Ordinary (limit lo) (limit hi)) × HasValue (limit lo) false lo 1 × HasValue (limit hi) false hi 1
+      (read_word r w ≡ Ok (Ordinary (limit lo) (limit hi))) × HasValue (limit lo) false lo 1 × HasValue (limit hi) false hi 1
   unfolding meaning
   limits_exact w h =
       let b : 2 ^ r ≤ 8 = pow_mono (truncation_parts r in_r).1 in
@@ -38,13 +39,13 @@ module _ (r : ℕ) (in_r : truncation_in_range r ≡ true) where
       let high : (w + 1) * 2 ^ r ≤ 32752 * 8 = mul-le-mul {n₂ = 32752} (omega arith) b in
       (reads w ∙ rw (lt-ltb w 32752 h), exact (w * 2 ^ r) (omega arith), exact ((w + 1) * 2 ^ r) (omega arith))
 
-  flag : (n : ℕ) → 1 ≤ n → n ≤ 9 → read_word r (32752 + n) ≡ Saturated n
+  flag : (n : ℕ) → 1 ≤ n → n ≤ 9 → read_word r (32752 + n) ≡ Ok (Saturated n)
   unfolding meaning
   flag n a b =
-      reads (32752 + n)
-      ∙ rw (le-ltb (32752 + n) 32752 (omega arith), le-leb 32753 (32752 + n) (omega arith), le-leb (32752 + n) 32761 (omega arith)) (ap Saturated (omega arith))
+      let e : 32752 + n - 32752 ≡ n = omega arith in
+      reads (32752 + n) ∙ rw (le-ltb (32752 + n) 32752 (omega arith), le-leb 32753 (32752 + n) (omega arith), le-leb (32752 + n) 32761 (omega arith), e)
 
-  negative : read_word r 32767 ≡ Negative
+  negative : read_word r 32767 ≡ Ok Negative
   unfolding meaning
   negative = reads 32767
 
@@ -56,7 +57,7 @@ module _ (r : ℕ) (in_r : truncation_in_range r ≡ true) where
       (λ e. let h = ltb-true w 32752 e in rw (e, lt-leb 32753 w (omega arith), ne_eqb w 32767 (λ q. omega arith)))
       (λ e. rw e (by (saturated_word w) (negative_word w)))
     where
-      by : (s n : Bool) → read_as_flag (cond s (Saturated (w - 32752)) (cond n Negative Unassigned)) ≡ s || n
+      by : (s n : Bool) → read_as_flag (Ok (cond s (Saturated (w - 32752)) (cond n Negative Unassigned))) ≡ s || n
       by true n = refl
       by false true = refl
       by false false = refl

@@ -1,11 +1,13 @@
 -- Reading a word, and which words are flags.
-use Rattle.std.specs.Prelude.{ℕ, ◌+◌, ◌-◌, ◌*◌, ◌^◌, Bool, cond, not, ◌&&◌, ◌||◌, leb, ltb, eqb, Float, pos}
+use Rattle.std.specs.Prelude.{ℕ, ◌+◌, ◌-◌, ◌*◌, ◌^◌, Bool, cond, not, ◌&&◌, ◌||◌, leb, ltb, eqb, Float, pos, Result, Ok, Err}
 use Rattle.std.specs.Float.{binary64}
 use Rattle.std.specs.Float.Ieee.{of_int}
+use Rattle.checks.specs.declared.Reason.TheVariants.{TruncationRange}
+use Rattle.checks.specs.declared.Refusal.{Refusal}
 use Rattle.checks.specs.Checks.{refusal}
 use Rattle.settings.specs.Settings.{truncation_in_range}
 use Rattle.meaning.specs.declared.WordRead.{WordRead}
-use Rattle.meaning.specs.declared.WordRead.TheVariants.{Ordinary, Saturated, Negative, Unassigned, Refused}
+use Rattle.meaning.specs.declared.WordRead.TheVariants.{Ordinary, Saturated, Negative, Unassigned}
 
 -- a whole number as a 64-bit float
 abbrev pub limit : ℕ → Float
@@ -32,5 +34,5 @@ unfoldable pub is_flag : ℕ → Bool
 is_flag w = saturated_word w || negative_word w
 
 -- 7: an r outside 1 to 3
-unfoldable pub read_word : ℕ → ℕ → WordRead
-read_word r w = cond (not (truncation_in_range r)) (Refused (refusal 7)) (meaning r w)
+unfoldable pub read_word : ℕ → ℕ → Result WordRead Refusal
+read_word r w = cond (not (truncation_in_range r)) (Err (refusal TruncationRange)) (Ok (meaning r w))

@@ -4,17 +4,16 @@
 ghost use Rattle.std.specs.Prelude.{◌≡◌, ◌≤◌};
 ghost use Rattle.meaning.specs.Meaning.{meaning, read_word, is_flag};
 
-use checks::Refusal;
+use checks::{Reason, Refusal, refuse_when};
 use ranges::truncation_in_range;
 
 // What a word means: the limits of its sum, or a flag.
-#[derive(Clone, Copy)]
+#[derive(Clone, Copy, Debug, PartialEq)]
 pub enum WordRead {
     Ordinary { low: f64, high: f64 },
     Saturated(u16),
     Negative,
     Unassigned,
-    Refused(Refusal),
 }
 
 // What a word means with an r from 1 to 3.
@@ -23,40 +22,28 @@ fn meaning_of(word: u16, truncation: u16) -> WordRead
     requires { truncation ≤ 3 }
     ensures { result ≡ meaning truncation word }
 {
-    if word < 32752 {
-        let step = 1u32 << truncation;
-        let low = word as u32 * step;
-        return WordRead::Ordinary {
-            low: low as f64,
-            high: (low + step) as f64,
-        };
-    }
-    if word < 32753 {
-        return WordRead::Unassigned;
-    }
-    if word <= 32761 {
-        return WordRead::Saturated(word - 32752);
-    }
-    if word == 32767 {
-        WordRead::Negative
-    } else {
-        WordRead::Unassigned
+    match word {
+        0..=32751 => {
+            let step = 1u32 << truncation;
+            let low = u32::from(word) * step;
+            WordRead::Ordinary {
+                low: f64::from(low),
+                high: f64::from(low + step),
+            }
+        }
+        32753..=32761 => WordRead::Saturated(word - 32752),
+        32767 => WordRead::Negative,
+        _ => WordRead::Unassigned,
     }
 }
 
 // Read a word: the limits or the flag that it means, or refusal 7.
 #[tactic(auto, unfolding(crate::specs::Meaning::read_word))]
-pub fn read_word(word: u16, truncation: u16) -> WordRead
+pub fn read_word(word: u16, truncation: u16) -> Result<WordRead, Refusal>
     ensures { result ≡ read_word truncation word }
 {
-    if truncation_in_range(truncation) {
-        meaning_of(word, truncation)
-    } else {
-        WordRead::Refused(Refusal {
-            number: checks::TRUNCATION_RANGE,
-            place: 0,
-        })
-    }
+    refuse_when(!truncation_in_range(truncation), Reason::TruncationRange)?;
+    Ok(meaning_of(word, truncation))
 }
 
 // Whether a word means saturated or negative.

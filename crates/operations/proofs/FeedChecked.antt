@@ -7,8 +7,7 @@ use borrow.Author.Tests.{ltb-false, le-ltb}
 use lib.IntN.{ℤ, pos}
 use lib.ListN.{length}
 use Rattle.laws.specs.Lists.{every}
-use Rattle.checks.specs.declared.Answer.TheVariants.{Taken}
-use Rattle.checks.specs.declared.Found.TheVariants.{Nothing}
+use Rattle.std.specs.Prelude.{None, Ok}
 use Rattle.checks.specs.Search.{first_place}
 use Rattle.checks.specs.Checks.{verdict}
 use Rattle.checks.proofs.Laws.{verdict_append, when_taken, found_taken}
@@ -27,19 +26,19 @@ pub record FeedTaken (b : Board) (xs : List ℕ) (sums : List ℤ) : Type 0 wher
   pub ramp : RampTaken b (length sums)
   pub room : b.fed + length xs ≤ wanted b
   pub readings : every reading_in_range xs ≡ true
-  pub entries : first_place (length sums) (not_possible_at (pos 0) (possible b.in_force) (length sums) b.fed (length xs) sums) ≡ Nothing
+  pub entries : first_place (length sums) (not_possible_at (pos 0) (possible b.in_force) (length sums) b.fed (length xs) sums) ≡ None
 
-pub feed_taken : (b : Board) (xs : List ℕ) (sums : List ℤ) → verdict (feed_checks b xs sums) ≡ Taken → FeedTaken b xs sums
+pub feed_taken : (b : Board) (xs : List ℕ) (sums : List ℤ) → verdict (feed_checks b xs sums) ≡ Ok tt → FeedTaken b xs sums
 feed_taken b xs sums e =
     let t = all_taken (ramp_checks b (length sums)) _ _ _ e in
     record {
       ramp = ramp_taken b (length sums) t.0;
-      room = ltb-false _ _ (when_taken _ 12 t.1);
-      readings = none_every reading_in_range xs 0 (found_taken _ 13 t.2);
-      entries = found_taken _ 14 t.3;
+      room = ltb-false _ _ (when_taken _ _ t.1);
+      readings = none_every reading_in_range xs 0 (found_taken _ _ t.2);
+      entries = found_taken _ _ t.3;
     }
 
-pub feed_passes : (b : Board) (xs : List ℕ) (sums : List ℤ) → FeedTaken b xs sums → verdict (feed_checks b xs sums) ≡ Taken
+pub feed_passes : (b : Board) (xs : List ℕ) (sums : List ℤ) → FeedTaken b xs sums → verdict (feed_checks b xs sums) ≡ Ok tt
 unfolding verdict
 feed_passes b xs sums t =
     rw (verdict_append (ramp_checks b (length sums)), ramp_passes b (length sums) t.ramp, le-ltb _ _ t.room, found_every reading_in_range xs 0 t.readings, t.entries)

@@ -13,9 +13,8 @@ use Rattle.settings.proofs.Parts.{InRange, in_range_parts, in_range_whole}
 use Rattle.update.specs.Update as SettingsUpdate
 use Rattle.update.proofs.Laws as UpdateLaws
 use Rattle.checks.specs.declared.Refusal.{Refusal}
-use Rattle.checks.specs.declared.Answer.{Answer}
-use Rattle.checks.specs.declared.Answer.TheVariants.{Taken, Refused}
-use Rattle.checks.specs.Checks.{verdict, by_answer}
+use Rattle.std.specs.Prelude.{Ok, Err}
+use Rattle.checks.specs.Checks.{Answer, verdict, by_answer}
 use Rattle.checks.proofs.Laws.{both_taken}
 use Rattle.entries.specs.Possible.{possible}
 use Rattle.written.proofs.Intervals.{written_none}
@@ -44,7 +43,7 @@ waiting_sound : (b : Board) (t : Settings) → InRange t → Sound b → Sound (
 waiting_sound b t r s = record { sides = s.sides; waiting = r; in_force = s.in_force; fed = s.fed; idle = s.idle }
 
 -- the settings of a taken record are in range
-resulting_in_range : (s : Settings) (bytes : List ℕ) → InRange s → (SettingsUpdate.update_of s bytes).answer ≡ Taken → InRange (SettingsUpdate.resulting bytes s)
+resulting_in_range : (s : Settings) (bytes : List ℕ) → InRange s → (SettingsUpdate.update_of s bytes).answer ≡ Ok tt → InRange (SettingsUpdate.resulting bytes s)
 unfolding SettingsUpdate.update_of
 resulting_in_range s bytes r e =
     in_range_parts _ (rw e at ((UpdateLaws.laws).stays_in_range s bytes (in_range_whole s r)))
@@ -54,7 +53,7 @@ unfolding update_of verdict
 update_sound b bytes =
     let answer = (SettingsUpdate.update_of b.waiting bytes).answer in
     stays b _ (answer ∷ [])
-    (λ s e. waiting_sound b _ (resulting_in_range b.waiting bytes s.waiting (both_taken answer Taken (both_taken (unsound b) (verdict (answer ∷ [])) e).1).0) s)
+    (λ s e. waiting_sound b _ (resulting_in_range b.waiting bytes s.waiting (both_taken answer (Ok tt) (both_taken (unsound b) (verdict (answer ∷ [])) e).1).0) s)
 
 feed_sound : (b : Board) (xs : List ℕ) (sums : List ℤ) → sound (feed_of b xs sums).board ≡ sound b
 unfolding feed_of
@@ -65,13 +64,13 @@ feed_sound b xs sums =
 -- ---- what each keeps
 
 update_waiting : (a : Answer) (b : Board) (t : Settings) → by_answer a (with_waiting t b) b ≡ with_waiting (by_answer a (with_waiting t b) b).waiting b
-update_waiting Taken b t = refl
-update_waiting (Refused r) b t = refl
+update_waiting (Ok tt) b t = refl
+update_waiting (Err r) b t = refl
 
-start_in_force : (a : Answer) (b : Board) → a ≡ Taken → (by_answer a (begun b) b).in_force ≡ b.waiting
+start_in_force : (a : Answer) (b : Board) → a ≡ Ok tt → (by_answer a (begun b) b).in_force ≡ b.waiting
 start_in_force a b e = rw e
 
-start_refused : (a : Answer) (b : Board) (r : Refusal) → a ≡ Refused r → by_answer a (begun b) b ≡ b
+start_refused : (a : Answer) (b : Board) (r : Refusal) → a ≡ Err r → by_answer a (begun b) b ≡ b
 start_refused a b r e = rw e
 
 -- ---- 99
@@ -89,8 +88,8 @@ unsound_99 b s = record {
 
 -- ---- the empty Feed
 
-empty_feed : (b : Board) (sums : List ℤ) → verdict (ramp_checks b (length sums)) ≡ Taken
-    → (feed_of b [] sums ≡ record { answer = Taken; board = b }) × (fed_sums b [] sums ≡ sums)
+empty_feed : (b : Board) (sums : List ℤ) → verdict (ramp_checks b (length sums)) ≡ Ok tt
+    → (feed_of b [] sums ≡ record { answer = Ok tt; board = b }) × (fed_sums b [] sums ≡ sums)
 unfolding feed_of fed_sums feed_all every
 empty_feed b sums e =
     let t = ramp_taken b (length sums) e in
@@ -116,11 +115,11 @@ laws = record {
   };
   unsound_99 = unsound_99;
   sides_stay = record {
-    update = λ b bytes. same_sides (verdict (update_checks b bytes)) b _ (refl, refl, refl);
-    start = λ b. same_sides (verdict (start_checks b)) b (begun b) (refl, refl, refl);
-    feed = λ b xs sums. same_sides (verdict (feed_checks b xs sums)) b (extended (length xs) b) (refl, refl, refl);
-    read_out = λ b sums output. same_sides (verdict (read_out_checks b sums output)) b (ended b) (refl, refl, refl);
-    drop = λ b. same_sides (verdict (drop_checks b)) b (ended b) (refl, refl, refl);
+    update = λ b bytes. same_sides (verdict (update_checks b bytes)) b _ refl;
+    start = λ b. same_sides (verdict (start_checks b)) b (begun b) refl;
+    feed = λ b xs sums. same_sides (verdict (feed_checks b xs sums)) b (extended (length xs) b) refl;
+    read_out = λ b sums output. same_sides (verdict (read_out_checks b sums output)) b (ended b) refl;
+    drop = λ b. same_sides (verdict (drop_checks b)) b (ended b) refl;
   };
   update_waiting = λ b bytes. update_waiting (verdict (update_checks b bytes)) b (SettingsUpdate.resulting bytes b.waiting);
   start_in_force = λ b e. start_in_force (verdict (start_checks b)) b e;

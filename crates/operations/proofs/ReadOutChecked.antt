@@ -7,7 +7,7 @@ use borrow.Author.Tests.{ltb-false, le-ltb, eqb-true, eq-eqb, not-false}
 use lib.IntN.{ℤ, pos}
 use lib.ListN.{length}
 use Rattle.laws.specs.Lists.{every}
-use Rattle.checks.specs.declared.Answer.TheVariants.{Taken}
+use Rattle.std.specs.Prelude.{Ok}
 use Rattle.checks.specs.Checks.{verdict}
 use Rattle.checks.proofs.Laws.{verdict_append, when_taken, found_taken}
 use Rattle.checks.proofs.Search.{found_every, none_every}
@@ -22,20 +22,20 @@ use Rattle.operations.specs.ReadOut.{read_out_checks}
 pub record ReadOutTaken (b : Board) (sums : List ℤ) (outputLength : ℕ) : Type 0 where
   pub ramp : RampTaken b (length sums)
   pub full : wanted b ≤ b.fed
-  pub room : outputLength ≡ word_count b.binned (area b)
+  pub room : outputLength ≡ word_count b.sides.binned (area b)
   pub entries : every (possible b.in_force b.in_force.samples) sums ≡ true
 
-pub read_out_taken : (b : Board) (sums : List ℤ) (output : List ℕ) → verdict (read_out_checks b sums output) ≡ Taken → ReadOutTaken b sums (length output)
+pub read_out_taken : (b : Board) (sums : List ℤ) (output : List ℕ) → verdict (read_out_checks b sums output) ≡ Ok tt → ReadOutTaken b sums (length output)
 read_out_taken b sums output e =
     let t = all_taken (ramp_checks b (length sums)) _ _ _ e in
     record {
       ramp = ramp_taken b (length sums) t.0;
-      full = ltb-false _ _ (when_taken _ 15 t.1);
-      room = eqb-true _ _ (not-false _ (when_taken _ 16 t.2));
-      entries = none_every (possible b.in_force b.in_force.samples) sums (pos 0) (found_taken _ 14 t.3);
+      full = ltb-false _ _ (when_taken _ _ t.1);
+      room = eqb-true _ _ (not-false _ (when_taken _ _ t.2));
+      entries = none_every (possible b.in_force b.in_force.samples) sums (pos 0) (found_taken _ _ t.3);
     }
 
-pub read_out_passes : (b : Board) (sums : List ℤ) (output : List ℕ) → ReadOutTaken b sums (length output) → verdict (read_out_checks b sums output) ≡ Taken
+pub read_out_passes : (b : Board) (sums : List ℤ) (output : List ℕ) → ReadOutTaken b sums (length output) → verdict (read_out_checks b sums output) ≡ Ok tt
 unfolding verdict
 read_out_passes b sums output t =
     rw (verdict_append (ramp_checks b (length sums)), ramp_passes b (length sums) t.ramp, le-ltb _ _ t.full, eq-eqb _ _ t.room, found_every (possible b.in_force b.in_force.samples) sums (pos 0) t.entries)

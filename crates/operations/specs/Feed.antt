@@ -1,24 +1,23 @@
 -- Feed.
 use Rattle.std.specs.Prelude.{ℕ, ◌+◌, not, List, [], ◌∷◌, ◌++◌, ltb, ℤ, pos, length, get_or}
-use Rattle.checks.specs.declared.Answer.{Answer}
+use Rattle.checks.specs.declared.Reason.TheVariants.{TooManyReadings, ReadingRange, EntryNotPossible}
 use Rattle.checks.specs.Search.{first_place}
-use Rattle.checks.specs.Checks.{when, found, verdict, by_answer}
+use Rattle.checks.specs.Checks.{Answer, when, found, verdict, by_answer}
 use Rattle.readings.specs.Readings.{reading_in_range}
 use Rattle.entries.specs.Possible.{possible}
 use Rattle.sums.specs.Feed.{sums_after}
 use Rattle.written.specs.Written.{not_possible_at}
 use Rattle.board.specs.declared.Board.{Board}
-use Rattle.board.specs.declared.Outcome.{Outcome}
-use Rattle.board.specs.Board.{wanted, leaves}
+use Rattle.board.specs.Board.{Outcome, wanted, leaves}
 use Rattle.board.specs.RampChecks.{ramp_checks}
 
 -- 12: the ramp wants fewer readings than come. 13: a reading is above 16,383; the place is the index of the first in the readings. 14: an entry that this ramp
 -- has written, and that gets a reading now, isn't possible for its k; the place is the smallest such index in the sums
 abbrev pub reading_checks : Board → List ℕ → List ℤ → List Answer
 reading_checks b readings sums =
-    when (ltb (wanted b) (b.fed + length readings)) 12
-    ∷ found (first_place (length readings) (λ i. not (reading_in_range (get_or readings i 0)))) 13
-    ∷ found (first_place (length sums) (not_possible_at (pos 0) (possible b.in_force) (length sums) b.fed (length readings) sums)) 14
+    when (ltb (wanted b) (b.fed + length readings)) TooManyReadings
+    ∷ found (first_place (length readings) (λ i. not (reading_in_range (get_or readings i 0)))) ReadingRange
+    ∷ found (first_place (length sums) (not_possible_at (pos 0) (possible b.in_force) (length sums) b.fed (length readings) sums)) EntryNotPossible
     ∷ []
 
 abbrev pub feed_checks : Board → List ℕ → List ℤ → List Answer
@@ -26,7 +25,7 @@ feed_checks b readings sums = ramp_checks b (length sums) ++ reading_checks b re
 
 -- more readings are fed
 abbrev pub extended : ℕ → Board → Board
-extended count b = record { width = b.width; height = b.height; binned = b.binned; waiting = b.waiting; in_force = b.in_force; running = b.running; fed = b.fed + count }
+extended count b = record { sides = b.sides; waiting = b.waiting; in_force = b.in_force; running = b.running; fed = b.fed + count }
 
 unfoldable pub feed_of : Board → List ℕ → List ℤ → Outcome
 feed_of b readings sums = leaves (verdict (feed_checks b readings sums)) (extended (length readings) b) b

@@ -1,6 +1,5 @@
 -- Feeds one after the other: each gets the board and the sums as the one before left them.
-use Rattle.std.specs.Prelude.{ℕ, ◌<◌, List, [], ◌∷◌, map, ◌≡◌, ℤ, pos, length, get_or}
-use Rattle.checks.specs.declared.Answer.TheVariants.{Taken}
+use Rattle.std.specs.Prelude.{ℕ, ◌<◌, List, [], ◌∷◌, map, ◌≡◌, ℤ, pos, length, get_or, Ok}
 use Rattle.step.specs.Step.{step}
 use Rattle.sums.specs.Feed.{pixel_of_reading, sample_of_reading}
 use Rattle.board.specs.declared.Board.{Board}
@@ -14,7 +13,7 @@ pub record BoardAndSums : Type 0 where
 
 -- Feed of these readings is taken
 abbrev pub TakesFeed : BoardAndSums → List ℕ → Type 0
-TakesFeed before readings = (feed_of before.board readings before.sums).answer ≡ Taken
+TakesFeed before readings = (feed_of before.board readings before.sums).answer ≡ Ok tt
 
 -- what it leaves
 abbrev pub after_feed : BoardAndSums → List ℕ → BoardAndSums

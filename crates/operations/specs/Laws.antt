@@ -1,11 +1,10 @@
 -- What must be true of the operations, beside the contracts. `proofs/Laws.antt` shows it.
-use Rattle.std.specs.Prelude.{ℕ, false, List, [], ◌≡◌, ℤ, length}
+use Rattle.std.specs.Prelude.{ℕ, false, List, [], ◌≡◌, ℤ, length, Ok, Err}
 use Rattle.laws.specs.Lists.{joined}
+use Rattle.checks.specs.declared.Reason.TheVariants.{UnsoundBoard}
 use Rattle.checks.specs.declared.Refusal.{Refusal}
-use Rattle.checks.specs.declared.Answer.TheVariants.{Taken, Refused}
 use Rattle.checks.specs.Checks.{refusal, verdict}
 use Rattle.board.specs.declared.Board.{Board}
-use Rattle.board.specs.declared.Coverage.TheVariants as Coverage
 use Rattle.board.specs.Board.{sound}
 use Rattle.board.specs.RampChecks.{ramp_checks}
 use Rattle.board.specs.Kept.{SameSides, SameSettings, refused99}
@@ -31,7 +30,7 @@ pub record Gives99 (b : Board) : Type 0 where
   pub feed : (readings : List ℕ) (sums : List ℤ) → (feed_of b readings sums ≡ refused99 b) × (fed_sums b readings sums ≡ sums)
   pub read_out : (sums : List ℤ) (output : List ℕ) → (read_out_of b sums output ≡ refused99 b) × (read_out_words b sums output ≡ output)
   pub drop : drop_of b ≡ refused99 b
-  pub covered : coverage_of b ≡ Coverage.Refused (refusal 99)
+  pub covered : coverage_of b ≡ Err (refusal UnsoundBoard)
 
 pub record OperationLaws : Type 0 where
   -- every operation keeps a sound board sound, and leaves any other as unsound as it was
@@ -43,15 +42,15 @@ pub record OperationLaws : Type 0 where
   -- Update changes only the waiting settings: those in force stay
   pub update_waiting : (b : Board) (bytes : List ℕ) → (update_of b bytes).board ≡ with_waiting (update_of b bytes).board.waiting b
   -- a taken Start puts the waiting settings in force, a refused one changes nothing
-  pub start_in_force : (b : Board) → (start_of b).answer ≡ Taken → (start_of b).board.in_force ≡ b.waiting
-  pub start_refused : (b : Board) (r : Refusal) → (start_of b).answer ≡ Refused r → (start_of b).board ≡ b
+  pub start_in_force : (b : Board) → (start_of b).answer ≡ Ok tt → (start_of b).board.in_force ≡ b.waiting
+  pub start_refused : (b : Board) (r : Refusal) → (start_of b).answer ≡ Err r → (start_of b).board ≡ b
   -- Feed, Read out and Drop keep both settings
   pub feed_keeps : (b : Board) (readings : List ℕ) (sums : List ℤ) → SameSettings b (feed_of b readings sums).board
   pub read_out_keeps : (b : Board) (sums : List ℤ) (output : List ℕ) → SameSettings b (read_out_of b sums output).board
   pub drop_keeps : (b : Board) → SameSettings b (drop_of b).board
   -- an empty Feed that passes its checks is taken and changes nothing: only 99, 10 and 11 can refuse it
-  pub empty_feed : (b : Board) (sums : List ℤ) → verdict (ramp_checks b (length sums)) ≡ Taken
-      → (feed_of b [] sums ≡ record { answer = Taken; board = b }) × (fed_sums b [] sums ≡ sums)
+  pub empty_feed : (b : Board) (sums : List ℤ) → verdict (ramp_checks b (length sums)) ≡ Ok tt
+      → (feed_of b [] sums ≡ record { answer = Ok tt; board = b }) × (fed_sums b [] sums ≡ sums)
   -- a taken Feed leaves the board and sums that the Feeds of its readings one at a time leave: all of these are taken, and each writes its one entry
   pub one_by_one : (before : BoardAndSums) (readings : List ℕ) → TakesFeed before readings → OneByOne before readings
   -- two ways to cut the same readings into taken Feeds leave the same board and sums

@@ -1,19 +1,18 @@
 -- Start begins a ramp, Drop ends it with no frame.
 use Rattle.std.specs.Prelude.{true, not, List, [], ◌∷◌}
-use Rattle.checks.specs.declared.Answer.{Answer}
-use Rattle.checks.specs.Checks.{when, verdict}
+use Rattle.checks.specs.declared.Reason.TheVariants.{RampRunning, NoRamp}
+use Rattle.checks.specs.Checks.{Answer, when, verdict}
 use Rattle.board.specs.declared.Board.{Board}
-use Rattle.board.specs.declared.Outcome.{Outcome}
-use Rattle.board.specs.Board.{unsound, ended, leaves}
+use Rattle.board.specs.Board.{Outcome, unsound, ended, leaves}
 
 -- ---- Start. 9: a ramp is running
 
 abbrev pub start_checks : Board → List Answer
-start_checks b = unsound b ∷ when b.running 9 ∷ []
+start_checks b = unsound b ∷ when b.running RampRunning ∷ []
 
 -- a ramp begins: the waiting settings are in force
 abbrev pub begun : Board → Board
-begun b = record { width = b.width; height = b.height; binned = b.binned; waiting = b.waiting; in_force = b.waiting; running = true; fed = 0 }
+begun b = record { sides = b.sides; waiting = b.waiting; in_force = b.waiting; running = true; fed = 0 }
 
 unfoldable pub start_of : Board → Outcome
 start_of b = leaves (verdict (start_checks b)) (begun b) b
@@ -21,7 +20,7 @@ start_of b = leaves (verdict (start_checks b)) (begun b) b
 -- ---- Drop. 10: no ramp is running. It is handed no sums, and the waiting settings stay
 
 abbrev pub drop_checks : Board → List Answer
-drop_checks b = unsound b ∷ when (not b.running) 10 ∷ []
+drop_checks b = unsound b ∷ when (not b.running) NoRamp ∷ []
 
 unfoldable pub drop_of : Board → Outcome
 drop_of b = leaves (verdict (drop_checks b)) (ended b) b

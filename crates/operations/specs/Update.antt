@@ -3,11 +3,9 @@ use Rattle.std.specs.Prelude.{ℕ, List, [], ◌∷◌}
 use Rattle.update.specs.Update as SettingsUpdate
 use Rattle.update.specs.Update.{resulting}
 use Rattle.settings.specs.declared.Settings.{Settings}
-use Rattle.checks.specs.declared.Answer.{Answer}
-use Rattle.checks.specs.Checks.{verdict}
+use Rattle.checks.specs.Checks.{Answer, verdict}
 use Rattle.board.specs.declared.Board.{Board}
-use Rattle.board.specs.declared.Outcome.{Outcome}
-use Rattle.board.specs.Board.{unsound, leaves}
+use Rattle.board.specs.Board.{Outcome, unsound, leaves}
 
 -- 99, then what the record's own checks, 2 to 8, say of it and the waiting settings
 abbrev pub update_checks : Board → List ℕ → List Answer
@@ -15,7 +13,7 @@ update_checks b bytes = unsound b ∷ (SettingsUpdate.update_of b.waiting bytes)
 
 -- other settings wait
 abbrev pub with_waiting : Settings → Board → Board
-with_waiting s b = record { width = b.width; height = b.height; binned = b.binned; waiting = s; in_force = b.in_force; running = b.running; fed = b.fed }
+with_waiting s b = record { sides = b.sides; waiting = s; in_force = b.in_force; running = b.running; fed = b.fed }
 
 -- only the waiting settings change, in the fields that the record names
 unfoldable pub update_of : Board → List ℕ → Outcome

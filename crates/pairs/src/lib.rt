@@ -12,9 +12,8 @@ pub fn decode(bytes: &[u8], readings: &mut [u16])
     requires bytes_len_bound { length bytes.now < 1000000 }
     ensures { readings.new ≡ take (length readings.old) (pairs bytes.now) }
 {
-    let mut i = 0;
-    while i < readings.len() {
-        readings[i] = pair(bytes, 2 * i);
-        i += 1;
+    // No zip: of what is written through one a proof knows the length alone.
+    for (i, reading) in readings.iter_mut().enumerate() {
+        *reading = pair(bytes, 2 * i);
     }
 }

@@ -12,14 +12,12 @@ use lib.ListN.{length}
 use Rattle.laws.specs.Lists.{each}
 use Rattle.laws.proofs.Numbers.{quotient, rest}
 use Rattle.laws.proofs.Tests.{clash, cases, and_true, true_and, and_right, and_false}
-use Rattle.checks.specs.declared.Answer.TheVariants.{Taken}
-use Rattle.checks.specs.declared.Found.{Found}
+use Rattle.std.specs.Prelude.{Option, Some, None, Result, Ok}
+use Rattle.checks.specs.declared.Refusal.{Refusal}
 use Rattle.checks.specs.Checks.{verdict}
 use Rattle.sides.specs.Sides.{sides_taken}
 use Rattle.meaning.specs.Meaning.{is_flag}
 use Rattle.places.specs.declared.Place.{Place}
-use Rattle.places.specs.declared.Nearest.TheVariants.{At, NoFlag}
-use Rattle.places.specs.declared.Count.TheVariants.{Flags}
 use Rattle.places.specs.Places.{place_at, place_of, index_of, is_inside, flag_at, apart, square}
 use Rattle.places.specs.Checks.{nearest_checks, count_checks}
 use Rattle.places.specs.Finding.{nearest_at, distance_from, placed, nearest_of}
@@ -39,16 +37,20 @@ module _ (words : List ℕ) (width height : ℕ) where
     index_below : index_of width p < length words
     index_below = omega (arith, row_room words width height f.whole p.row i.row, i.column)
 
-  module _ (place : Place) (taken : verdict (nearest_checks words width height place) ≡ Taken) where
+  module _ (place : Place) (taken : verdict (nearest_checks words width height place) ≡ Ok tt) where
     abbrev frame : Framed words width height
     frame = (nearest_taken words width height place taken).0
 
     abbrev distance : ℕ → ℕ
     distance = distance_from width place
 
-    answer : nearest_of words width height place ≡ placed width (nearest_at (length words) (flag_at words) distance)
+    answer : nearest_of words width height place ≡ Ok (placed width (nearest_at (length words) (flag_at words) distance))
     unfolding nearest_of
     answer = rw taken
+
+    -- what was found, out of the answer
+    told : {a b : Option Place} → ◌≡◌ {A = Result (Option Place) Refusal} (Ok a) (Ok b) → a ≡ b
+    told e = cc
 
     -- the place of a word is within the frame
     inside_of : (i : ℕ) → i < length words → is_inside width height (place_of width i) ≡ true
@@ -62,38 +64,38 @@ module _ (words : List ℕ) (width height : ℕ) where
     is_nearest : (i : ℕ) → Best (flag_at words) distance (length words) i → NearestFlag words width place i
     is_nearest i b = record { flag = b.holds; first = λ j t. b.first j (flag_below words j t) t }
 
-    to_place : (p : Place) (x : Found) → Says (flag_at words) distance (length words) x → placed width x ≡ At p
+    to_place : (p : Place) (x : Option ℕ) → Says (flag_at words) distance (length words) x → placed width x ≡ Some p
         → (is_inside width height p ≡ true) × NearestFlag words width place (index_of width p)
-    to_place p (Found.At i) s e =
+    to_place p (Some i) s e =
         let q : place_of width i ≡ p = same e in
         let k : index_of width p ≡ i = rw (← q) (div-add-mod' i width) in
         (rw (← q) (inside_of i s.below), rw k (is_nearest i s))
       where
-        same : {a b : Place} → At a ≡ At b → a ≡ b
+        same : {a b : Place} → Some a ≡ Some b → a ≡ b
         same z = cc
-    to_place p Found.Nothing s e = let z : ◌≡◌ {A = ℕ} 0 1 = cc in absurd (omega arith)
+    to_place p None s e = let z : ◌≡◌ {A = ℕ} 0 1 = cc in absurd (omega arith)
 
-    from_place : (p : Place) → is_inside width height p ≡ true → NearestFlag words width place (index_of width p) → nearest_of words width height place ≡ At p
+    from_place : (p : Place) → is_inside width height p ≡ true → NearestFlag words width place (index_of width p) → nearest_of words width height place ≡ Ok (Some p)
     from_place p t n =
         answer
         ∙ rw (nearest_is (flag_at words) distance (length words) (index_of width p) (best_is (index_of width p) n))
-        (ap At (place_back frame p (inside_parts words width height p t)))
+        (ap (λ (q : Place). Ok (Some q)) (place_back frame p (inside_parts words width height p t)))
 
-    nearest : (p : Place) → Exactly (nearest_of words width height place ≡ At p) ((is_inside width height p ≡ true) × NearestFlag words width place (index_of width p))
+    nearest : (p : Place) → Exactly (nearest_of words width height place ≡ Ok (Some p)) ((is_inside width height p ≡ true) × NearestFlag words width place (index_of width p))
     nearest p =
-        (λ e. to_place p (nearest_at (length words) (flag_at words) distance) (nearest_says (flag_at words) distance (length words)) (sym answer ∙ e), λ n. from_place p n.0 n.1)
+        (λ e. to_place p (nearest_at (length words) (flag_at words) distance) (nearest_says (flag_at words) distance (length words)) (told (sym answer ∙ e)), λ n. from_place p n.0 n.1)
 
-    to_none : (x : Found) → Says (flag_at words) distance (length words) x → placed width x ≡ NoFlag → (i : ℕ) → flag_at words i ≡ false
-    to_none (Found.At k) s e i = let z : ◌≡◌ {A = ℕ} 0 1 = cc in absurd (omega arith)
-    to_none Found.Nothing s e i = cases (flag_at words i) (λ t. clash (sym t ∙ s i (flag_below words i t))) (λ t. t)
+    to_none : (x : Option ℕ) → Says (flag_at words) distance (length words) x → placed width x ≡ None → (i : ℕ) → flag_at words i ≡ false
+    to_none (Some k) s e i = let z : ◌≡◌ {A = ℕ} 0 1 = cc in absurd (omega arith)
+    to_none None s e i = cases (flag_at words i) (λ t. clash (sym t ∙ s i (flag_below words i t))) (λ t. t)
 
-    no_flag : Exactly (nearest_of words width height place ≡ NoFlag) ((i : ℕ) → flag_at words i ≡ false)
+    no_flag : Exactly (nearest_of words width height place ≡ Ok None) ((i : ℕ) → flag_at words i ≡ false)
     no_flag = (
-      λ e. to_none (nearest_at (length words) (flag_at words) distance) (nearest_says (flag_at words) distance (length words)) (sym answer ∙ e),
+      λ e. to_none (nearest_at (length words) (flag_at words) distance) (nearest_says (flag_at words) distance (length words)) (told (sym answer ∙ e)),
       λ h. answer ∙ rw (nearest_none (flag_at words) distance (length words) (λ j l. h j)),
     )
 
-    own_nearest : flag_at words (index_of width place) ≡ true → nearest_of words width height place ≡ At place
+    own_nearest : flag_at words (index_of width place) ≡ true → nearest_of words width height place ≡ Ok (Some place)
     own_nearest t =
         let i = (nearest_taken words width height place taken).1 in
         from_place place (true_and (lt-ltb place.row height i.row) (lt-ltb place.column width i.column))
@@ -120,7 +122,7 @@ module _ (words : List ℕ) (width height : ℕ) where
             let c : place.column ≡ j % width = omega arith in
             inr (omega arith, rw (r, c, div-add-mod' j width) (omega arith))))
 
-  module _ (place : Place) (taken : verdict (count_checks words width height place place) ≡ Taken) where
+  module _ (place : Place) (taken : verdict (count_checks words width height place place) ≡ Ok tt) where
     -- a word in a box of one place is the word there
     only : Framed words width height → Inside words width height place → (j : ℕ) → (j < index_of width place) ⊎ (index_of width place < j) → flag_within words width place place j ≡ false
     only f i j apart =
@@ -141,7 +143,7 @@ module _ (words : List ℕ) (width height : ℕ) where
     here i =
         rw (quotient width place.row place.column i.column, rest width place.row place.column i.column, le-leb place.row place.row (omega arith), le-leb place.column place.column (omega arith))
 
-    one_place : count_of words width height place place ≡ Flags (cond (flag_at words (index_of width place)) 1 0)
+    one_place : count_of words width height place place ≡ Ok (cond (flag_at words (index_of width place)) 1 0)
     unfolding count_of how_many
     one_place =
         let t = count_taken words width height place place taken in
@@ -149,18 +151,18 @@ module _ (words : List ℕ) (width height : ℕ) where
         let e : k + 1 + (length words - (k + 1)) ≡ length words = omega (arith, index_below t.0 place t.1) in
         let test = flag_within words width place place in
         rw taken
-        (ap Flags
+        (ap Ok
         (subst (λ (n : ℕ). how_many n test ≡ cond (flag_at words k) 1 0) e
         (many_within test k 1 (length words - (k + 1)) (λ j l. only t.0 t.1 j (inl l)) (λ j l m. only t.0 t.1 j (inr (omega arith)))
         ∙ rw (add-zero k, here t.1, and_right) (omega arith))))
 
-  module _ (taken : verdict (count_checks words width height (place_at 0 0) (place_at (height - 1) (width - 1))) ≡ Taken) where
-    whole_frame : count_of words width height (place_at 0 0) (place_at (height - 1) (width - 1)) ≡ Flags (how_many (length words) (flag_at words))
+  module _ (taken : verdict (count_checks words width height (place_at 0 0) (place_at (height - 1) (width - 1))) ≡ Ok tt) where
+    whole_frame : count_of words width height (place_at 0 0) (place_at (height - 1) (width - 1)) ≡ Ok (how_many (length words) (flag_at words))
     unfolding count_of
     whole_frame =
         let t = count_taken words width height (place_at 0 0) (place_at (height - 1) (width - 1)) taken in
         rw taken
-        (ap Flags
+        (ap Ok
         (many_same (flag_within words width (place_at 0 0) (place_at (height - 1) (width - 1))) (flag_at words) (length words)
         (λ j l. let w = within words width height t.0.whole (omega (arith, t.1.column)) j l in
         rw (le-leb 0 (j / width) (omega arith), le-leb 0 (j % width) (omega arith), le-leb (j / width) (height - 1) (omega arith), le-leb (j % width) (width - 1) (omega arith)) (and_right (flag_at words j)))))

@@ -12,8 +12,8 @@ use native.Mathlib.Omega.{arith}
 use borrow.Author.Tests.{leb-true, leb-false}
 use lib.Dec.{leb}
 use Rattle.laws.proofs.Tests.{clash}
-use Rattle.checks.specs.declared.Found.{Found}
-use Rattle.checks.specs.declared.Found.TheVariants.{At, Nothing}
+use Rattle.std.specs.Prelude.{Option}
+use Rattle.std.specs.Prelude.{Some, None}
 use Rattle.places.specs.Finding.{nearer, nearest_at}
 use Rattle.places.specs.Laws.{NotAfter}
 
@@ -35,9 +35,9 @@ module _ (test : ℕ → Bool) (distance : ℕ → ℕ) where
     pub holds : test i ≡ true
     pub first : (j : ℕ) → j < n → test j ≡ true → NotAfter (distance i) i (distance j) j
 
-  abbrev pub Says : ℕ → Found → Type 0
-  Says n (At i) = Best n i
-  Says n Nothing = (j : ℕ) → j < n → test j ≡ false
+  abbrev pub Says : ℕ → Option ℕ → Type 0
+  Says n (Some i) = Best n i
+  Says n None = (j : ℕ) → j < n → test j ≡ false
 
   -- of the numbers up to n, those before it and n itself
   up_to : {P : ℕ → Type 0} (n : ℕ) → ((j : ℕ) → j < n → P j) → P n → (j : ℕ) → j < suc n → P j
@@ -50,23 +50,23 @@ module _ (test : ℕ → Bool) (distance : ℕ → ℕ) where
   here : (i : ℕ) → NotAfter (distance i) i (distance i) i
   here i = inr (refl, omega arith)
 
-  more : (n : ℕ) (x : Found) → Says n x → (b : Bool) → test n ≡ b → Says (suc n) (nearer distance x (cond b (At n) Nothing))
-  more n Nothing s true e =
+  more : (n : ℕ) (x : Option ℕ) → Says n x → (b : Bool) → test n ≡ b → Says (suc n) (nearer distance x (cond b (Some n) None))
+  more n None s true e =
       record {
         below = omega arith;
         holds = e;
         first = up_to {P = λ j. test j ≡ true → NotAfter (distance n) n (distance j) j} n (λ j l t. clash (sym t ∙ s j l)) (λ t. here n);
       }
-  more n Nothing s false e = up_to {P = λ j. test j ≡ false} n s e
-  more n (At i) s false e =
+  more n None s false e = up_to {P = λ j. test j ≡ false} n s e
+  more n (Some i) s false e =
       record {
         below = omega (arith, s.below);
         holds = s.holds;
         first = up_to {P = λ j. test j ≡ true → NotAfter (distance i) i (distance j) j} n s.first (λ t. clash (sym t ∙ e));
       }
-  more n (At i) s true e = by (leb (distance i) (distance n)) refl
+  more n (Some i) s true e = by (leb (distance i) (distance n)) refl
     where
-      by : (t : Bool) → leb (distance i) (distance n) ≡ t → Says (suc n) (cond t (At i) (At n))
+      by : (t : Bool) → leb (distance i) (distance n) ≡ t → Says (suc n) (cond t (Some i) (Some n))
       by true q =
           record {
             below = omega (arith, s.below);
@@ -89,19 +89,19 @@ module _ (test : ℕ → Bool) (distance : ℕ → ℕ) where
   nearest_says zero = λ j l. absurd (omega arith)
   nearest_says (suc n) = more n (nearest_at n test distance) (nearest_says n) (test n) refl
 
-  pub nearest_is : (n i : ℕ) → Best n i → nearest_at n test distance ≡ At i
+  pub nearest_is : (n i : ℕ) → Best n i → nearest_at n test distance ≡ Some i
   nearest_is n i b = by (nearest_at n test distance) (nearest_says n)
     where
-      by : (x : Found) → Says n x → x ≡ At i
-      by (At k) s = ap At (same (s.first i b.below b.holds) (b.first k s.below s.holds))
-      by Nothing s = clash (sym b.holds ∙ s i b.below)
+      by : (x : Option ℕ) → Says n x → x ≡ Some i
+      by (Some k) s = ap Some (same (s.first i b.below b.holds) (b.first k s.below s.holds))
+      by None s = clash (sym b.holds ∙ s i b.below)
 
-  pub nearest_below : (n i : ℕ) → nearest_at n test distance ≡ At i → i < n
+  pub nearest_below : (n i : ℕ) → nearest_at n test distance ≡ Some i → i < n
   nearest_below n i e = (subst (Says n) e (nearest_says n)).below
 
-  pub nearest_none : (n : ℕ) → ((j : ℕ) → j < n → test j ≡ false) → nearest_at n test distance ≡ Nothing
+  pub nearest_none : (n : ℕ) → ((j : ℕ) → j < n → test j ≡ false) → nearest_at n test distance ≡ None
   nearest_none n h = by (nearest_at n test distance) (nearest_says n)
     where
-      by : (x : Found) → Says n x → x ≡ Nothing
-      by (At k) s = clash (sym s.holds ∙ h k s.below)
-      by Nothing s = refl
+      by : (x : Option ℕ) → Says n x → x ≡ None
+      by (Some k) s = clash (sym s.holds ∙ h k s.below)
+      by None s = refl

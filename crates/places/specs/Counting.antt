@@ -1,10 +1,8 @@
 -- The flags in a box.
-use Rattle.std.specs.Prelude.{ℕ, zero, suc, ◌+◌, Bool, cond, ◌&&◌, List, leb, length}
-use Rattle.checks.specs.declared.Answer.{Answer}
-use Rattle.checks.specs.declared.Answer.TheVariants.{Taken, Refused}
-use Rattle.checks.specs.Checks.{verdict}
+use Rattle.std.specs.Prelude.{ℕ, zero, suc, ◌+◌, Bool, cond, ◌&&◌, List, leb, length, Result}
+use Rattle.checks.specs.declared.Refusal.{Refusal}
+use Rattle.checks.specs.Checks.{verdict, or_refused}
 use Rattle.places.specs.declared.Place.{Place}
-use Rattle.places.specs.declared.Count.{Count}
 use Rattle.places.specs.Places.{place_of, flag_at}
 use Rattle.places.specs.Checks.{count_checks}
 
@@ -22,11 +20,7 @@ in_box first last p =
 abbrev pub flag_within : List ℕ → ℕ → Place → Place → ℕ → Bool
 flag_within words width first last i = flag_at words i && in_box first last (place_of width i)
 
--- a refusal, or how many there are
-abbrev pub or_refused : Answer → ℕ → Count
-or_refused Taken n = Count.Flags n
-or_refused (Refused r) n = Count.Refused r
-
-unfoldable pub count_of : List ℕ → ℕ → ℕ → Place → Place → Count
+-- how many there are, or a refusal
+unfoldable pub count_of : List ℕ → ℕ → ℕ → Place → Place → Result ℕ Refusal
 count_of words width height first last =
     or_refused (verdict (count_checks words width height first last)) (how_many (length words) (flag_within words width first last))

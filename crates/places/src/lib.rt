@@ -1,24 +1,17 @@
-// A place of a frame of words, and what looking for flags answers.
+// A frame of words, and a place in it.
 #![tactic(auto)]
 
-use checks::Refusal;
+// The words stand row by row. Nothing has been checked of them.
+#[derive(Clone, Copy)]
+pub struct Frame<'a> {
+    pub words: &'a [u16],
+    pub width: usize,
+    pub height: usize,
+}
 
 // Both are counted from 0.
-#[derive(Clone, Copy)]
+#[derive(Clone, Copy, Debug, PartialEq, Eq)]
 pub struct Place {
     pub row: usize,
     pub column: usize,
-}
-
-#[derive(Clone, Copy)]
-pub enum Nearest {
-    At(Place),
-    NoFlag,
-    Refused(Refusal),
-}
-
-#[derive(Clone, Copy)]
-pub enum Count {
-    Flags(usize),
-    Refused(Refusal),
 }

@@ -1,4 +1,4 @@
--- One turn of Feed's loop, which has fed the first i readings: it feeds the next k, which stay within one sample.
+-- One turn of Feed's loop, which has come to `at`: it feeds the next k readings, which stay within one sample.
 use Prim.Native.Nat.{ℕ, suc, ◌+◌, ◌-◌, ◌/◌, ◌%◌, ◌≤◌, ◌<◌}
 use mathlib.Core.Bool.{true}
 use mathlib.Core.List.{List, ◌++◌}
@@ -26,19 +26,25 @@ use Rattle.written.proofs.Intervals.{Ready}
 use Rattle.sums.proofs.Ready.{ready_all}
 use Rattle.written.proofs.Intervals.{written_ready}
 
-module _ (s : Settings) (f : ℕ) (xs : List ℕ) (ss : List ℤ) (h : Feedable s f xs ss) (i k : ℕ) (hk : i + k ≤ length xs) (hp : (f + i) % length ss + k ≤ length ss) where
+module _ (s : Settings) (f : ℕ) (xs : List ℕ) (ss : List ℤ) (h : Feedable s f xs ss) (at k : ℕ) (hf : f ≤ at) (hk : at + k ≤ f + length xs) (hp : at % length ss + k ≤ length ss) where
   abbrev m : ℕ
   m = length ss
 
+  abbrev i : ℕ
+  i = at - f
+
   abbrev n : ℕ
-  n = (f + i) / m
+  n = at / m
 
   abbrev p : ℕ
-  p = (f + i) % m
+  p = at % m
 
   -- the sums after the first i readings
   abbrev sums : List ℤ
   sums = feed_all (pos 0) (step s) m f (take i xs) ss
+
+  here : f + i ≡ at
+  here = omega arith
 
   taken : length (take i xs) ≡ i
   taken = length-take-le i xs (omega arith)
@@ -46,15 +52,15 @@ module _ (s : Settings) (f : ℕ) (xs : List ℕ) (ss : List ℤ) (h : Feedable 
   whole : length sums ≡ m
   whole = feed_length (pos 0) (step s) m (take i xs) f ss
 
-  ready : Ready (pos 0) (possible s) m (f + i) (length xs - i) sums
+  ready : Ready (pos 0) (possible s) m at (length xs - i) sums
   ready =
       let c : length (take i xs) + (length xs - i) ≡ length xs = rw taken (omega arith) in
-      rw taken at (ready_all (pos 0) (step s) (possible s) m h.some (possible_step s (in_range_parts s h.settings)) (take i xs) f (length xs - i) ss (every_take reading_in_range i xs h.readings) (rw taken (omega (arith, h.room))) refl (rw c (written_ready (pos 0) (possible s) m f (length xs) ss h.some h.entries)))
+      rw (taken, here) at (ready_all (pos 0) (step s) (possible s) m h.some (possible_step s (in_range_parts s h.settings)) (take i xs) f (length xs - i) ss (every_take reading_in_range i xs h.readings) (rw taken (omega (arith, h.room))) refl (rw c (written_ready (pos 0) (possible s) m f (length xs) ss h.some h.entries)))
 
   pub turn_in_range : n ≤ 8 → 1 < n + 1 → every entry_in_range (take k (drop p sums)) ≡ true
   unfolding Ready
   turn_in_range few l =
-      let a = place (f + i) m h.some in
+      let a = place at m h.some in
       every_all entry_in_range (take k (drop p sums)) (pos 0)
       (λ q t.
       let u : q < k = rw (part_length sums p k (rw whole hp)) at t in
@@ -63,6 +69,6 @@ module _ (s : Settings) (f : ℕ) (xs : List ℕ) (ss : List ℤ) (h : Feedable 
   pub turn_next : take p sums ++ (over (λ x e. step s (suc n) e x) (take k (drop i xs)) (take k (drop p sums)) ++ drop k (drop p sums))
       ≡ feed_all (pos 0) (step s) m f (take (i + k) xs) ss
   turn_next =
-      let e : length (take k (drop i xs)) ≡ k = part_length xs i k hk in
+      let e : length (take k (drop i xs)) ≡ k = part_length xs i k (omega arith) in
       feed_part (pos 0) (step s) m n p k (take k (drop i xs)) sums whole (rw e (omega arith)) hp
-      ∙ rw ((place (f + i) m h.some).0, take-add i k xs, feed_append (pos 0) (step s) m (take i xs) (take k (drop i xs)) f ss, taken)
+      ∙ rw ((place at m h.some).0, take-add i k xs, feed_append (pos 0) (step s) m (take i xs) (take k (drop i xs)) f ss, taken, here)

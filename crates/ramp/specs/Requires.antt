@@ -3,7 +3,7 @@ use Rattle.std.specs.Prelude.{ℕ, ◌+◌, ◌*◌, ◌≤◌, ◌<◌, true, L
 use Rattle.laws.specs.Lists.{every}
 use Rattle.settings.specs.declared.Settings.{Settings}
 use Rattle.settings.specs.Settings.{max_samples, in_range}
-use Rattle.checks.specs.declared.Found.TheVariants.{Nothing}
+use Rattle.std.specs.Prelude.{None}
 use Rattle.checks.specs.Search.{first_place}
 use Rattle.readings.specs.Readings.{reading_in_range}
 use Rattle.entries.specs.Possible.{possible}
@@ -15,4 +15,4 @@ pub record Feedable (s : Settings) (f : ℕ) (xs : List ℕ) (sums : List ℤ) :
   pub settings : in_range s ≡ true
   pub room : f + length xs ≤ max_samples * length sums
   pub readings : every reading_in_range xs ≡ true
-  pub entries : first_place (length sums) (not_possible_at (pos 0) (possible s) (length sums) f (length xs) sums) ≡ Nothing
+  pub entries : first_place (length sums) (not_possible_at (pos 0) (possible s) (length sums) f (length xs) sums) ≡ None

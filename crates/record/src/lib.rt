@@ -3,10 +3,10 @@
 
 ghost use Rattle.std.specs.Prelude.{◌≡◌, get_or};
 ghost use Rattle.record.specs.Record as Def;
-ghost use Rattle.record.specs.Record.{pair_at, width_of, number_at, weight_of};
+ghost use Rattle.record.specs.Record.{field_count, field_of, number_at, pair_at, place_of, weight_of, width_of};
 
 // A field of an update record. `Weight(i)` is weight i + 1.
-#[derive(Clone, Copy)]
+#[derive(Clone, Copy, Debug, PartialEq, Eq)]
 pub enum Field {
     Weight(usize),
     Threshold,
@@ -21,71 +21,85 @@ pub const FIELDS: usize = 12;
 pub fn stands(n: u16, i: usize) -> bool
     ensures { result ≡ Def.stands n i }
 {
-    if i < 16 { n >> i & 1 == 1 } else { false }
+    i < 16 && n >> i & 1 == 1
 }
 
 // A byte, 0 past the end.
 pub fn byte(bytes: &[u8], at: usize) -> u8
     ensures { result ≡ get_or bytes.now at 0 }
 {
-    if at < bytes.len() { bytes[at] } else { 0 }
+    bytes.get(at).copied().unwrap_or(0)
 }
 
 // The two bytes at a place, low byte first.
 pub fn pair(bytes: &[u8], at: usize) -> u16
     ensures { result ≡ pair_at bytes.now at }
 {
+    // After the last place there is none.
     if at < bytes.len() {
-        byte(bytes, at) as u16 + 256 * byte(bytes, at + 1) as u16
+        u16::from_le_bytes([byte(bytes, at), byte(bytes, at + 1)])
     } else {
         0
     }
 }
 
-// The field of a bit.
-#[tactic(auto, unfolding(crate::specs::Record::field_of))]
-pub fn field_of(bit: usize) -> Field
-    ensures { result ≡ Def.field_of bit }
-{
-    if bit < 9 {
-        Field::Weight(bit)
-    } else if bit == 9 {
-        Field::Threshold
-    } else if bit == 10 {
-        Field::Truncation
-    } else {
-        Field::Samples
+impl Field {
+    // The field of a bit.
+    #[tactic(auto, unfolding(crate::specs::Record::field_of))]
+    pub fn of_bit(bit: usize) -> Field
+        ensures { result ≡ field_of bit }
+    {
+        match bit {
+            0..9 => Field::Weight(bit),
+            9 => Field::Threshold,
+            10 => Field::Truncation,
+            _ => Field::Samples,
+        }
+    }
+
+    // How many bytes it takes.
+    pub fn width(self) -> usize
+        ensures { result ≡ width_of self }
+    {
+        match self {
+            Field::Weight(_) => 1,
+            Field::Threshold => 2,
+            Field::Truncation => 1,
+            Field::Samples => 1,
+        }
+    }
+
+    // Its number at a place.
+    pub fn number_at(self, bytes: &[u8], at: usize) -> u16
+        ensures { result ≡ number_at self bytes.now at }
+    {
+        match self {
+            Field::Threshold => pair(bytes, at),
+            Field::Weight(_) | Field::Truncation | Field::Samples => byte(bytes, at).into(),
+        }
     }
 }
 
-// How many bytes a field takes.
-pub fn width(field: Field) -> usize
-    ensures { result ≡ width_of field }
+// Where the fields that a map calls for end.
+#[tactic(auto, unfolding(crate::specs::Record::place_of))]
+pub fn end_of(map: u16) -> usize
+    ensures { result ≡ place_of map field_count }
 {
-    match field {
-        Field::Weight(_) => 1,
-        Field::Threshold => 2,
-        Field::Truncation => 1,
-        Field::Samples => 1,
+    let mut end = 2;
+    for bit in 0..FIELDS {
+        if stands(map, bit) {
+            end += Field::of_bit(bit).width();
+        }
     }
-}
-
-// A field's number at a place.
-pub fn number_at(field: Field, bytes: &[u8], at: usize) -> u16
-    ensures { result ≡ number_at field bytes.now at }
-{
-    match field {
-        Field::Weight(_) => byte(bytes, at) as u16,
-        Field::Threshold => pair(bytes, at),
-        Field::Truncation => byte(bytes, at) as u16,
-        Field::Samples => byte(bytes, at) as u16,
-    }
+    end
 }
 
 // The signed value of a weight byte: the sign in bit 4, the magnitude in bits 0 to 3.
+#[tactic(auto, unfolding(crate::specs::Record::weight_of), using(crate::proofs::Magnitudes::read_size, crate::proofs::Magnitudes::neg_read))]
 pub fn weight_of(b: u16) -> i32
     ensures { result ≡ weight_of b }
 {
+    // `as` only widens here: `From` says no more.
     let magnitude = (b & 15) as i32;
     if stands(b, 4) { -magnitude } else { magnitude }
 }

@@ -1,141 +1,119 @@
 // What a replay prints.
-use crate::print::{byte, newline, next, number, signed, text, whole};
-use board::{Board, Coverage};
-use checks::{Answer, Refusal};
+use board::Board;
+use checks::Refusal;
 use meaning::WordRead;
-use places::{Count, Nearest};
+use places::Place;
 use settings::Settings;
+use std::fmt;
+use std::fmt::Display;
 
-pub(crate) fn taken() {
-    text(b"taken\n");
-}
+// What a call answers, or its refusal with number and place.
+#[derive(Drop)]
+pub(crate) struct Told<T>(pub(crate) Result<T, Refusal>);
 
-pub(crate) fn outside() {
-    text(b"outside\n");
-}
-
-// A name and a number.
-pub(crate) fn one(name: &[u8], n: u64) {
-    text(name);
-    next(n);
-    newline();
-}
-
-// A name and two numbers.
-fn two(name: &[u8], n: u64, m: u64) {
-    text(name);
-    next(n);
-    next(m);
-    newline();
-}
-
-// A refusal with its number and place.
-fn refusal(r: Refusal) {
-    two(b"refused", r.number as u64, r.place as u64);
-}
-
-pub(crate) fn answer(answer: Answer) {
-    match answer {
-        Answer::Taken => taken(),
-        Answer::Refused(r) => refusal(r),
+impl<T: Display> Display for Told<T> {
+    fn fmt<W: fmt::Write>(&self, f: &mut fmt::Formatter<W>) -> fmt::Result {
+        match &self.0 {
+            Ok(answer) => write!(f, "{answer}"),
+            Err(refusal) => {
+                let number = refusal.reason.number();
+                let place = refusal.place;
+                write!(f, "refused {number} {place}")
+            }
+        }
     }
-}
-
-pub(crate) fn coverage(coverage: Coverage) {
-    match coverage {
-        Coverage::Covered => text(b"covered\n"),
-        Coverage::Uncovered => text(b"uncovered\n"),
-        Coverage::Refused(r) => refusal(r),
-    }
-}
-
-fn limits(low: f64, high: f64) {
-    whole(low);
-    text(b"..");
-    whole(high);
-    newline();
 }
 
 // What a word means: its limits or its flag.
-pub(crate) fn meaning(read: WordRead) {
-    match read {
-        WordRead::Ordinary { low, high } => limits(low, high),
-        WordRead::Saturated(sample) => one(b"sat", sample as u64),
-        WordRead::Negative => text(b"neg\n"),
-        WordRead::Unassigned => text(b"none\n"),
-        WordRead::Refused(r) => refusal(r),
+#[derive(Clone, Copy)]
+pub(crate) struct Meaning(pub(crate) WordRead);
+
+impl Display for Meaning {
+    fn fmt<W: fmt::Write>(&self, f: &mut fmt::Formatter<W>) -> fmt::Result {
+        match self.0 {
+            WordRead::Ordinary { low, high } => write!(f, "{low}..{high}"),
+            WordRead::Saturated(sample) => write!(f, "sat {sample}"),
+            WordRead::Negative => write!(f, "neg"),
+            WordRead::Unassigned => write!(f, "none"),
+        }
     }
 }
 
-pub(crate) fn nearest(nearest: Nearest) {
-    match nearest {
-        Nearest::At(place) => two(b"flag", place.row as u64, place.column as u64),
-        Nearest::NoFlag => text(b"no flag\n"),
-        Nearest::Refused(r) => refusal(r),
+// The flag that was found.
+#[derive(Clone, Copy)]
+pub(crate) struct Flag(pub(crate) Option<Place>);
+
+impl Display for Flag {
+    fn fmt<W: fmt::Write>(&self, f: &mut fmt::Formatter<W>) -> fmt::Result {
+        match self.0 {
+            Some(Place { row, column }) => write!(f, "flag {row} {column}"),
+            None => write!(f, "no flag"),
+        }
     }
 }
 
-pub(crate) fn count(count: Count) {
-    match count {
-        Count::Flags(n) => one(b"flags", n as u64),
-        Count::Refused(r) => refusal(r),
+// How many flags there are.
+#[derive(Clone, Copy)]
+pub(crate) struct Flags(pub(crate) usize);
+
+impl Display for Flags {
+    fn fmt<W: fmt::Write>(&self, f: &mut fmt::Formatter<W>) -> fmt::Result {
+        let count = self.0;
+        write!(f, "flags {count}")
     }
 }
 
-fn weights(weights: [i32; 9]) {
-    let mut i = 0;
-    while i < 9 {
-        byte(32);
-        signed(weights[i]);
-        i += 1;
+// Settings, each number after a space.
+#[derive(Clone, Copy)]
+struct Listed(Settings);
+
+impl Display for Listed {
+    fn fmt<W: fmt::Write>(&self, f: &mut fmt::Formatter<W>) -> fmt::Result {
+        let settings = self.0;
+        for weight in settings.weights {
+            write!(f, " {weight}")?;
+        }
+        let threshold = settings.threshold;
+        let truncation = settings.truncation;
+        let samples = settings.samples;
+        write!(f, " {threshold} {truncation} {samples}")
     }
 }
 
-fn settings(settings: Settings) {
-    let nine = settings.weights;
-    weights(nine);
-    next(settings.threshold as u64);
-    next(settings.truncation as u64);
-    next(settings.samples as u64);
-}
+// A board as it is.
+#[derive(Clone, Copy)]
+pub(crate) struct Shown(pub(crate) Board);
 
-pub(crate) fn board(board: Board) {
-    text(b"board");
-    next(board.width as u64);
-    next(board.height as u64);
-    next(board.binned as u64);
-    next(board.running as u64);
-    next(board.fed as u64);
-    let waiting = board.waiting;
-    settings(waiting);
-    let in_force = board.in_force;
-    settings(in_force);
-    newline();
-}
-
-// What follows the number at place i of a list: ten stand on a line.
-fn separator(i: usize, last: bool) {
-    byte(if (i % 10 == 9) | last { 10 } else { 32 });
-}
-
-fn word(word: u16) {
-    number(word as u64);
-}
-
-pub(crate) fn words(words: &[u16]) {
-    let mut i = 0;
-    while i < words.len() {
-        word(words[i]);
-        separator(i, i + 1 == words.len());
-        i += 1;
+impl Display for Shown {
+    fn fmt<W: fmt::Write>(&self, f: &mut fmt::Formatter<W>) -> fmt::Result {
+        let board = self.0;
+        let width = board.sides.width;
+        let height = board.sides.height;
+        let binned = u8::from(board.sides.binned);
+        let running = u8::from(board.running);
+        let fed = board.fed;
+        let waiting = Listed(board.waiting);
+        let in_force = Listed(board.in_force);
+        write!(
+            f,
+            "board {width} {height} {binned} {running} {fed}{waiting}{in_force}"
+        )
     }
 }
 
-pub(crate) fn entries(sums: &[i32]) {
-    let mut i = 0;
-    while i < sums.len() {
-        signed(sums[i]);
-        separator(i, i + 1 == sums.len());
-        i += 1;
+// Numbers, ten on a line.
+#[derive(Drop)]
+pub(crate) struct Tens<'a, T>(pub(crate) &'a [T]);
+
+impl<T: Display> Display for Tens<'_, T> {
+    fn fmt<W: fmt::Write>(&self, f: &mut fmt::Formatter<W>) -> fmt::Result {
+        for line in self.0.chunks(10) {
+            for (i, number) in line.iter().enumerate() {
+                let space = if i == 0 { "" } else { " " };
+                write!(f, "{space}{number}")?;
+            }
+            writeln!(f)?;
+        }
+        Ok(())
     }
 }

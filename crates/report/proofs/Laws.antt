@@ -1,14 +1,13 @@
 -- The laws of the text of a job.
 use Prim.Native.Nat.{ℕ}
 use mathlib.Core.List.{List, [], ◌∷◌, ◌++◌}
-use mathlib.Core.Path.{◌≡◌, refl, sym, ◌∙◌}
+use mathlib.Core.Path.{◌≡◌, refl, sym, ap, ◌∙◌}
 use native.Mathlib.Omega.{arith}
 use lib.ListN.{length, take}
-use lib.Seq.{take_all}
 use Rattle.laws.specs.Lists.{each, every, any_of, total}
-use Rattle.checks.specs.declared.Answer.TheVariants.{Taken}
+use Rattle.std.specs.Prelude.{Ok}
 use Rattle.checks.specs.Search.{first_place}
-use Rattle.checks.specs.Checks.{verdict, by_answer}
+use Rattle.checks.specs.Checks.{verdict}
 use Rattle.settings.specs.Settings.{in_range}
 use Rattle.record.specs.Record.{stands, field_of, place_of, weight_of}
 use Rattle.update.specs.Update as Update
@@ -30,41 +29,17 @@ use Rattle.pairs.specs.Pairs.{pairs}
 use Rattle.text.specs.Text.{digit_count, decimal}
 use Rattle.text.proofs.Laws as TextLaws
 use Rattle.lines.specs.Lines.{line_text, lines_text}
-use Rattle.job.specs.declared.Job.{Job}
 use Rattle.job.specs.Kept.{capacity}
-use Rattle.job.specs.Job.{job_answer, job_words, columns_of, truncation_of, Result}
+use Rattle.job.specs.Job.{job_answer, job_words, truncation_of}
 use Rattle.job.proofs.Laws as Jobs
 use Rattle.report.specs.Text.{header, text_of}
 use Rattle.report.specs.Laws.{example, first_line, second_line, ReportLaws}
-use Rattle.report.proofs.Jobs.{text_is}
-
--- a result of an input
-some_job : List ℕ → ℕ → Job
-some_job bytes total = record {
-  answer = job_answer bytes total;
-  count = length (job_words bytes total);
-  columns = by_answer (job_answer bytes total) (columns_of bytes) 0;
-  truncation = by_answer (job_answer bytes total) (truncation_of bytes) 0;
-  words = job_words bytes total;
-}
-
-is_result : (bytes : List ℕ) (total : ℕ) → Result bytes total (some_job bytes total)
-unfolding some_job
-is_result bytes total = record {
-  answer = refl;
-  words = take_all (length (job_words bytes total)) (job_words bytes total) (omega arith);
-  count = refl;
-  columns = refl;
-  truncation = refl;
-}
+use Rattle.report.proofs.Jobs.{result_text, text_is}
 
 prefix : (bytes : List ℕ) → text_of (take capacity bytes) (length bytes) ≡ text_of bytes (length bytes)
-prefix bytes =
-    let job = some_job (take capacity bytes) (length bytes) in
-    let r = is_result (take capacity bytes) (length bytes) in
-    sym (text_is (take capacity bytes) (length bytes) job r) ∙ text_is bytes (length bytes) job ((Jobs.laws).prefix bytes job r)
+prefix bytes = sym (text_is (take capacity bytes) (length bytes)) ∙ ap result_text ((Jobs.laws).prefix bytes) ∙ text_is bytes (length bytes)
 
-taken : job_answer example (length example) ≡ Taken
+taken : job_answer example (length example) ≡ Ok tt
 unfolding example job_answer verdict sides_taken frame_answer open_of update_of start_of feed_of fed_sums read_out_of sound in_range every any_of stands field_of place_of weight_of Update.update_of with_bits each first_place possible_after feed_all feed_one step pairs
 taken = refl
 

@@ -1,5 +1,4 @@
 -- The text of a job.
 pub mod Text
-pub mod Requires
 pub mod Laws
 pub mod Known

@@ -1,7 +1,6 @@
 -- The text of a job, as bytes in ASCII.
-use Rattle.std.specs.Prelude.{ℕ, List, [], ◌∷◌, ◌++◌, length}
-use Rattle.checks.specs.declared.Answer.{Answer}
-use Rattle.checks.specs.declared.Answer.TheVariants.{Taken, Refused}
+use Rattle.std.specs.Prelude.{ℕ, List, [], ◌∷◌, ◌++◌, length, Ok, Err}
+use Rattle.checks.specs.Checks.{Answer}
 use Rattle.text.specs.Text.{newline, refusal_text}
 use Rattle.lines.specs.Lines.{lines_text}
 use Rattle.job.specs.Job.{job_answer, job_words, columns_of, truncation_of}
@@ -12,8 +11,8 @@ header = 114 ∷ 111 ∷ 119 ∷ 32 ∷ 99 ∷ 111 ∷ 108 ∷ 32 ∷ 119 ∷ 11
 
 -- a taken job: the header, and a line for each word. A refused one: one line with the refusal's number
 abbrev pub answer_text : Answer → ℕ → ℕ → List ℕ → List ℕ
-answer_text Taken columns r words = header ++ lines_text columns r words (length words)
-answer_text (Refused f) columns r words = refusal_text f ++ newline
+answer_text (Ok tt) columns r words = header ++ lines_text columns r words (length words)
+answer_text (Err f) columns r words = refusal_text f ++ newline
 
 -- the whole output for an input, of which `total` is the whole length
 unfoldable pub text_of : List ℕ → ℕ → List ℕ

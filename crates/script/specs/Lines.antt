@@ -1,8 +1,8 @@
 -- The lines of a script.
-use Rattle.std.specs.Prelude.{ℕ, ◌+◌, ◌≤◌, ◌==◌, List, length, drop}
+use Rattle.std.specs.Prelude.{◌≡◌, ℕ, ◌+◌, ◌≤◌, ◌==◌, List, length, take, drop}
 use Rattle.std.specs.List.{position_or_len}
-use Rattle.checks.specs.declared.Found.{Found}
-use Rattle.checks.specs.declared.Found.TheVariants.{At, Nothing}
+use Rattle.std.specs.Prelude.{Option}
+use Rattle.std.specs.Prelude.{Some, None}
 
 -- where a byte stands first, or the length of a list that doesn't hold it
 abbrev pub index_of : ℕ → List ℕ → ℕ
@@ -12,7 +12,11 @@ index_of byte bytes = position_or_len (λ b. b == byte) bytes
 abbrev pub line_end : List ℕ → ℕ → ℕ
 line_end script at = at + index_of 10 (drop at script)
 
+-- the line that a script begins with, if it isn't empty, and what follows the line's end
+abbrev pub NextLine : List ℕ → List ℕ → List ℕ → Type 0
+NextLine script line rest = (1 ≤ length script) × (line ≡ take (line_end script 0) script) × (rest ≡ drop (line_end script 0 + 1) script)
+
 -- the number of a line, counted from 1: a script has no more lines than bytes
-abbrev pub Numbered : List ℕ → Found → Type 0
-Numbered script (At line) = (1 ≤ line) × (line ≤ length script)
-Numbered script Nothing = Unit {0}
+abbrev pub Numbered : List ℕ → Option ℕ → Type 0
+Numbered script (Some line) = (1 ≤ line) × (line ≤ length script)
+Numbered script None = Unit {0}

@@ -1,84 +1,55 @@
 // A script of calls on a board: its lines, and what each of them says.
 #![tactic(auto)]
 
-ghost use Rattle.std.specs.Prelude.{◌≡◌, ◌+◌, ◌-◌, ◌≤◌, max, length, take, drop};
-ghost use Rattle.script.specs.Lines.{index_of, line_end, Numbered};
+ghost use Rattle.std.specs.Prelude.{◌≡◌, ◌==◌, ◌≤◌, max, [], length, IfOk, IfSome, MatchOption};
+ghost use Rattle.std.specs.List.{position};
+ghost use Rattle.std.specs.Iterator.{at_most};
+ghost use Rattle.script.specs.Lines.{index_of, line_end, NextLine, Numbered};
 ghost use Rattle.commands.specs.Ranges.{InRange};
 
-use crate::numbers::numbers;
-use check::same;
-use checks::Found;
-use commands::{Command, named};
+use crate::numbers::read_numbers;
+use commands::{Command, Malformed, named};
 use items::Numbers;
 
 mod numbers;
+
+// Where a byte stands first.
+fn first_place(bytes: &[u8], byte: u8) -> Option<usize>
+    ensures { result ≡ position (λ b. b == byte) bytes.now }
+{
+    bytes.iter().position(|b| *b == byte)
+}
 
 // Where a byte stands first, or how many bytes there are if it stands nowhere.
 fn place_of(bytes: &[u8], byte: u8) -> usize
     ensures place { result ≡ index_of byte bytes.now }
     ensures bound { result ≤ length bytes.now }
 {
-    let mut i = 0;
-    while i < bytes.len() {
-        if bytes[i] == byte {
-            return i;
-        }
-        i += 1;
-    }
-    i
-}
-
-// Where a byte stands first from one place to another, or the other place if it stands nowhere there.
-fn find(bytes: &[u8], from: usize, to: usize, byte: u8) -> usize
-    requires { (from ≤ to) × (to ≤ length bytes.now) }
-    ensures place { result ≡ from + index_of byte (take (to - from) (drop from bytes.now)) }
-    ensures bounds { (from ≤ result) × (result ≤ to) }
-{
-    from + place_of(&bytes[from..to], byte)
+    first_place(bytes, byte).unwrap_or(bytes.len())
 }
 
 // Where the word of a line ends.
 fn word_end(line: &[u8]) -> usize
-    ensures { (result ≤ length line.now) × (result ≡ length (take result line.now)) }
+    ensures { result ≤ length line.now }
 {
-    let count = line.len();
-    if count >= 10 {
-        if same(&line[..10], b"print sums") {
-            return 10;
-        }
-    }
-    find(line, 0, count, 32)
-}
-
-// The command of a line that has one; its numbers go into the list.
-fn command(line: &[u8], list: &mut Numbers) -> Command
-    ensures { InRange result }
-{
-    let end = word_end(line);
-    let found = numbers(line, end, list);
-    match found {
-        Found::At(count) => named(&line[..end], list, count),
-        Found::Nothing => Command::Malformed,
-    }
-}
-
-// What a line says: a command, nothing if it is empty or a comment, or something malformed.
-pub fn said(line: &[u8], list: &mut Numbers) -> Command
-    ensures { InRange result }
-{
-    if line.len() == 0 {
-        Command::Nothing
-    } else if line[0] == 35 {
-        Command::Nothing
+    if line.starts_with(b"print sums") {
+        10
     } else {
-        command(line, list)
+        place_of(line, b' ')
     }
 }
 
-fn is_malformed(command: Command) -> bool {
-    match command {
-        Command::Malformed => true,
-        _ => false,
+// What a line says: a command, whose numbers go into the list, or nothing if it is empty or a comment.
+pub fn said(line: &[u8], list: &mut Numbers) -> Result<Option<Command>, Malformed>
+    ensures { IfOk result (λ said. IfSome said InRange) }
+{
+    match line {
+        [] | [b'#', ..] => Ok(None),
+        _ => {
+            let (word, numbers) = line.split_at(word_end(line));
+            read_numbers(numbers, list)?;
+            Ok(Some(named(word, list.as_slice())?))
+        }
     }
 }
 
@@ -87,26 +58,41 @@ pub fn line_end(script: &[u8], at: usize) -> usize
     ensures place { result ≡ line_end script.now at }
     ensures bounds { (at ≤ result) × (result ≤ max at (length script.now)) }
 {
-    if at < script.len() {
-        find(script, at, script.len(), 10)
-    } else {
-        at
+    match script.get(at..) {
+        Some(rest) => at + place_of(rest, b'\n'),
+        None => at,
+    }
+}
+
+// The lines of a script, each without its end.
+#[derive(Drop)]
+pub struct Lines<'a>(pub &'a [u8]);
+
+impl<'a> Iterator for Lines<'a> {
+    type Item = &'a [u8];
+
+    ghost next_gives = { λ before line after. MatchOption line (before.0.now ≡ []) (λ l. NextLine before.0.now l.now after.0.now) };
+
+    ghost remaining = { λ lines. at_most (length lines.0.now) };
+
+    fn next(&mut self) -> Option<&'a [u8]> {
+        if self.0.is_empty() {
+            return None;
+        }
+        let (line, rest) = self.0.split_at(line_end(self.0, 0));
+        self.0 = rest.get(1..).unwrap_or(rest);
+        Some(line)
     }
 }
 
 // The number of the first malformed line, counted from 1.
-pub fn first_malformed(script: &[u8], list: &mut Numbers) -> Found
+pub fn first_malformed(script: &[u8], list: &mut Numbers) -> Option<usize>
     ensures { Numbered script.now result }
 {
-    let mut line: usize = 1;
-    let mut at = 0;
-    while at < script.len() {
-        let end = line_end(script, at);
-        if is_malformed(said(&script[at..end], list)) {
-            return Found::At(line);
+    for (i, line) in Lines(script).enumerate() {
+        if said(line, list).is_err() {
+            return Some(i + 1);
         }
-        at = end + 1;
-        line += 1;
     }
-    Found::Nothing
+    None
 }

@@ -9,7 +9,7 @@ use crate::Settings;
 fn positive_part(w: i32) -> u64
     ensures { result ≡ positive_part w }
 {
-    if 0 < w { w as u64 } else { 0 }
+    u64::try_from(w).unwrap_or(0)
 }
 
 impl Settings {
@@ -17,12 +17,11 @@ impl Settings {
     pub fn weight(self, n: usize) -> i32
         ensures { result ≡ weight_at self n }
     {
-        let weights = self.weights;
         if n == 0 {
-            return 0;
+            0
+        } else {
+            self.weights.get(n - 1).copied().unwrap_or(0)
         }
-        let i = n - 1;
-        if i < 9 { weights[i] } else { 0 }
     }
 
     // The total of the positive weights among the first n.
@@ -32,10 +31,8 @@ impl Settings {
         ensures bound { result ≤ n * 2 ^ 31 }
     {
         let mut total: u64 = 0;
-        let mut i: usize = 0;
-        while i < n {
-            i += 1;
-            total = total + positive_part(self.weight(i));
+        for i in 0..n {
+            total += positive_part(self.weight(i + 1));
         }
         total
     }
@@ -44,9 +41,10 @@ impl Settings {
     pub fn is_covered(self) -> bool
         ensures { result ≡ is_covered self }
     {
+        // `as` only widens here: `From` says no more.
         let r = self.truncation;
         let total = self.positive_total(self.samples as usize);
-        let reach = 128 + total * (self.threshold as u64);
+        let reach = 128 + total * self.threshold as u64;
         // 32,752 * 2^49 is above every reach.
         if r < 49 { reach < 32752 << r } else { true }
     }

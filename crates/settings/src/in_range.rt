@@ -7,11 +7,11 @@ use ranges::{samples_in_range, threshold_in_range, truncation_in_range, weights_
 
 impl Settings {
     // Whether every setting is one that an update could leave.
+    #[tactic(auto, unfolding(crate::specs::Settings::in_range))]
     pub fn in_range(self) -> bool
         ensures { result ≡ in_range self }
     {
-        let weights = self.weights;
-        weights_in_range(weights)
+        weights_in_range(self.weights)
             & threshold_in_range(self.threshold)
             & truncation_in_range(self.truncation)
             & samples_in_range(self.samples)

@@ -7,7 +7,7 @@ ghost use Rattle.settings.specs.Settings as Def;
 mod covered;
 mod in_range;
 
-#[derive(Clone, Copy)]
+#[derive(Clone, Copy, Debug, PartialEq, Eq)]
 pub struct Settings {
     // The weights of samples 1 to 9.
     pub weights: [i32; 9],

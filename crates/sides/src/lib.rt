@@ -4,26 +4,37 @@
 ghost use Rattle.std.specs.Prelude.{◌≡◌, ◌*◌};
 ghost use Rattle.sides.specs.Sides.{side_taken, sides_taken, of_sides};
 
-fn side_taken(binned: bool, n: usize) -> bool
-    ensures { result ≡ side_taken binned n }
-{
-    (1 <= n) & (n <= 1024) & !(binned & (n % 2 == 1))
+#[derive(Clone, Copy, Debug, PartialEq, Eq)]
+pub struct Sides {
+    pub width: usize,
+    pub height: usize,
+    pub binned: bool,
 }
 
-// Whether Open takes these sides.
-pub fn sides_taken(width: usize, height: usize, binned: bool) -> bool
-    ensures { result ≡ sides_taken width height binned }
-{
-    side_taken(binned, width) & side_taken(binned, height)
-}
+impl Sides {
+    // Whether a side of n pixels is taken.
+    fn takes(self, n: usize) -> bool
+        ensures { result ≡ side_taken self.binned n }
+    {
+        1 <= n && n <= 1024 && !(self.binned && n % 2 == 1)
+    }
 
-// How many pixels a board of these sides has; 0 for sides that Open doesn't take.
-pub fn area(width: usize, height: usize, binned: bool) -> usize
-    ensures { result ≡ of_sides width height binned (width * height) }
-{
-    if sides_taken(width, height, binned) {
-        width * height
-    } else {
-        0
+    // Whether Open takes these sides.
+    #[tactic(auto, unfolding(crate::specs::Sides::sides_taken))]
+    pub fn are_taken(self) -> bool
+        ensures { result ≡ sides_taken self.width self.height self.binned }
+    {
+        self.takes(self.width) && self.takes(self.height)
+    }
+
+    // How many pixels a board of these sides has; 0 for sides that Open doesn't take.
+    pub fn area(self) -> usize
+        ensures { result ≡ of_sides self.width self.height self.binned (self.width * self.height) }
+    {
+        if self.are_taken() {
+            self.width * self.height
+        } else {
+            0
+        }
     }
 }

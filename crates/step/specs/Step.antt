@@ -1,10 +1,16 @@
 -- What one reading does to one entry, in the order of section 2.3 of the Description: multiply, add 128 or the stored sum, store.
-use Rattle.std.specs.Prelude.{ℕ, Bool, cond, eqb, ltb, ℤ, pos, ◌+ℤ◌, ◌*ℤ◌}
+use Rattle.std.specs.Prelude.{ℕ, ◌≤◌, ◌≡◌, Bool, true, cond, eqb, ltb, ℤ, pos, ◌+ℤ◌, ◌*ℤ◌}
 use Rattle.settings.specs.declared.Settings.{Settings}
-use Rattle.settings.specs.Settings.{weight_at}
+use Rattle.settings.specs.Settings.{max_samples, weight_in_range, threshold_in_range, weight_at}
 use Rattle.settings.specs.Covered.{pedestal}
 use Rattle.entries.specs.Mark.{mark, marked}
 use Rattle.step.specs.declared.Sample.{Sample}
+
+-- a sample of a ramp, with a weight and a threshold in range
+pub record SampleInRange (sample : Sample) : Type 0 where
+  pub number : (1 ≤ sample.n) × (sample.n ≤ max_samples)
+  pub weight : weight_in_range sample.weight ≡ true
+  pub threshold : threshold_in_range sample.threshold ≡ true
 
 -- a reading x above the threshold t: equal to it isn't above it
 abbrev pub is_above : ℕ → ℕ → Bool

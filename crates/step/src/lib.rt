@@ -1,32 +1,20 @@
-// What one reading does to one entry.
+// What one reading does to one entry. Both stand in lent slices of plain numbers, so their ranges stand in each contract.
 #![tactic(auto)]
 
-ghost use Rattle.std.specs.Prelude.{◌≡◌, true, cond, ◌≤◌, ◌<◌, pos, nat_abs, ◌*ℤ◌};
-ghost use Rattle.settings.specs.Settings.{weight_in_range, threshold_in_range, max_samples};
+ghost use Rattle.std.specs.Prelude.{◌≡◌, true, cond, ◌<◌, pos, ◌*ℤ◌};
+ghost use Rattle.settings.specs.Settings.{weight_in_range, threshold_in_range};
 ghost use Rattle.readings.specs.Readings.{reading_in_range};
 ghost use Rattle.entries.specs.Range.{entry_in_range};
-ghost use Rattle.step.specs.Step.{is_above, pedestal_or_stored, sum_or_mark, step_by};
+ghost use Rattle.step.specs.Step.{SampleInRange, is_above, pedestal_or_stored, sum_or_mark, step_by};
 
 use entries::MARK;
 
 // A sample of a ramp: its number, counted from 1, its weight, and the threshold that its readings are held against.
-#[derive(Clone, Copy)]
+#[derive(Clone, Copy, Debug, PartialEq, Eq)]
 pub struct Sample {
     pub n: usize,
     pub weight: i32,
     pub threshold: u16,
-}
-
-// The magnitude of a weight, without its sign.
-fn magnitude(weight: i32) -> u8
-    requires { weight_in_range weight ≡ true }
-    ensures { result ≡ nat_abs weight }
-{
-    if weight < 0 {
-        (-weight) as u8
-    } else {
-        weight as u8
-    }
 }
 
 // A reading as a signed number of 16 bits, which are cheaper to multiply and to compare. It is below 32,768.
@@ -37,13 +25,14 @@ fn signed(reading: u16) -> i16
     reading as i16
 }
 
-// Multiply: weight * reading. The magnitude is multiplied and then takes the sign, so that the compiler sees two small numbers and makes a loop for each sign.
+// Multiply: weight * reading. The magnitude, in eight bits, is multiplied and then takes the sign, so that the compiler sees two small numbers and makes a loop for
+// each sign.
 fn multiply(weight: i32, reading: u16) -> i32
     requires weight_value { weight_in_range weight ≡ true }
     requires reading_value { reading_in_range reading ≡ true }
     ensures { result ≡ weight *ℤ pos reading }
 {
-    let size = magnitude(weight) as i32 * signed(reading) as i32;
+    let size = weight.unsigned_abs() as u8 as i32 * signed(reading) as i32;
     if weight < 0 { -size } else { size }
 }
 
@@ -79,9 +68,7 @@ fn sum_or_mark(addend: i32, above: bool, mark: i32, sum: i32) -> i32
 
 // One reading of a sample, in the order of section 2.3 of the Description: multiply, add 128 or the stored sum, store.
 pub fn accumulate(stored: &mut i32, reading: u16, sample: Sample)
-    requires le_n { (1 ≤ sample.n) × (sample.n ≤ max_samples) }
-    requires weight_value { weight_in_range sample.weight ≡ true }
-    requires threshold_value { threshold_in_range sample.threshold ≡ true }
+    requires sample_value { SampleInRange sample }
     requires reading_value { reading_in_range reading ≡ true }
     requires stored_value { 1 < sample.n → entry_in_range stored.old ≡ true }
     ensures { stored.new ≡ step_by sample reading stored.old }

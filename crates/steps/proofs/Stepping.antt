@@ -6,9 +6,8 @@ use mathlib.Core.Bool.{Bool}
 use mathlib.Core.List.{List, [], ◌∷◌}
 use mathlib.Core.Path.{◌≡◌, refl, ap, ◌∙◌}
 use lib.IntN.{ℤ}
-use Rattle.checks.specs.declared.Answer.{Answer}
-use Rattle.checks.specs.declared.Answer.TheVariants.{Taken, Refused}
-use Rattle.checks.specs.Checks.{first, verdict, by_answer}
+use Rattle.std.specs.Prelude.{Ok, Err}
+use Rattle.checks.specs.Checks.{Answer, first, verdict, by_answer}
 use Rattle.checks.proofs.Laws.{first_taken}
 use Rattle.operations.specs.Feed.{feed_of, fed_sums}
 use Rattle.operations.specs.ReadOut.{read_out_of, read_out_words}
@@ -18,8 +17,8 @@ use Rattle.steps.specs.Steps.{part_fed, all_fed, feed_answer, feed_leaves, read_
 
 -- a refused operation leaves what it was given, whether it is asked once or twice
 once : {A : Type 0} (a : Answer) (new old : A) → by_answer a (by_answer a new old) old ≡ by_answer a new old
-once Taken new old = refl
-once (Refused r) new old = refl
+once (Ok tt) new old = refl
+once (Err r) new old = refl
 
 module _ (w h : ℕ) (binned : Bool) (bytes : List ℕ) where
   pub feed_is : (n : ℕ) (xs : List ℕ) (sums : List ℤ)
@@ -29,7 +28,7 @@ module _ (w h : ℕ) (binned : Bool) (bytes : List ℕ) where
       let a = (feed_of (part_fed w h binned bytes n) xs sums).answer in
       begun_then w h binned bytes (a ∷ []) ∙ ap (first (begun w h binned bytes).answer) (first_taken a)
 
-  pub feed_left : (n : ℕ) (xs : List ℕ) (sums : List ℤ) → (begun w h binned bytes).answer ≡ Taken → feed_leaves w h binned bytes n xs sums ≡ fed_sums (part_fed w h binned bytes n) xs sums
+  pub feed_left : (n : ℕ) (xs : List ℕ) (sums : List ℤ) → (begun w h binned bytes).answer ≡ Ok tt → feed_leaves w h binned bytes n xs sums ≡ fed_sums (part_fed w h binned bytes n) xs sums
   unfolding feed_leaves feed_of fed_sums
   feed_left n xs sums t = rw (feed_is n xs sums, t) (once (feed_of (part_fed w h binned bytes n) xs sums).answer _ _)
 
@@ -40,6 +39,6 @@ module _ (w h : ℕ) (binned : Bool) (bytes : List ℕ) where
       let a = (read_out_of (all_fed w h binned bytes) sums output).answer in
       begun_then w h binned bytes (a ∷ []) ∙ ap (first (begun w h binned bytes).answer) (first_taken a)
 
-  pub read_out_left : (sums : List ℤ) (output : List ℕ) → (begun w h binned bytes).answer ≡ Taken → read_out_leaves w h binned bytes sums output ≡ read_out_words (all_fed w h binned bytes) sums output
+  pub read_out_left : (sums : List ℤ) (output : List ℕ) → (begun w h binned bytes).answer ≡ Ok tt → read_out_leaves w h binned bytes sums output ≡ read_out_words (all_fed w h binned bytes) sums output
   unfolding read_out_leaves read_out_of read_out_words
   read_out_left sums output t = rw (read_out_is sums output, t) (once (read_out_of (all_fed w h binned bytes) sums output).answer _ _)

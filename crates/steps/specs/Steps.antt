@@ -1,7 +1,6 @@
 -- One step of a frame: Feed or Read out alone, on the board that Open, Update and Start give, with some readings of the ramp fed.
 use Rattle.std.specs.Prelude.{ℕ, Bool, List, [], ◌∷◌, ℤ}
-use Rattle.checks.specs.declared.Answer.{Answer}
-use Rattle.checks.specs.Checks.{verdict, by_answer}
+use Rattle.checks.specs.Checks.{Answer, verdict, by_answer}
 use Rattle.board.specs.declared.Board.{Board}
 use Rattle.board.specs.Board.{wanted}
 use Rattle.board.specs.Open.{open_of}
@@ -11,7 +10,7 @@ use Rattle.operations.specs.ReadOut.{read_out_of, read_out_words}
 
 -- a board with so many readings fed; with more than the ramp wants it isn't sound
 abbrev pub with_fed : ℕ → Board → Board
-with_fed count b = record { width = b.width; height = b.height; binned = b.binned; waiting = b.waiting; in_force = b.in_force; running = b.running; fed = count }
+with_fed count b = record { sides = b.sides; waiting = b.waiting; in_force = b.in_force; running = b.running; fed = count }
 
 -- the board of a ramp that has had so many readings
 abbrev pub part_fed : ℕ → ℕ → Bool → List ℕ → ℕ → Board

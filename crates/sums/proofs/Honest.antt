@@ -14,7 +14,7 @@ use Rattle.laws.specs.Lists.{every}
 use Rattle.laws.proofs.Every.{every_all}
 use Rattle.settings.specs.declared.Settings.{Settings}
 use Rattle.settings.proofs.Parts.{InRange}
-use Rattle.checks.specs.declared.Found.TheVariants.{Nothing}
+use Rattle.std.specs.Prelude.{None}
 use Rattle.checks.specs.Search.{first_place}
 use Rattle.readings.specs.Readings.{reading_in_range}
 use Rattle.entries.specs.Possible.{possible}
@@ -29,7 +29,7 @@ module _ (s : Settings) (r : InRange s) (m : ℕ) (some : 0 < m) (xs : List ℕ)
   entry : (p : ℕ) → p < m → (k : ℕ) → samples_written m (length xs) p ≡ k → 1 ≤ k → possible s k (get_or sums p (pos 0)) ≡ true
   entry = undamaged s r m some xs ok sums agrees few
 
-  pub never_damaged : (count : ℕ) → first_place m (not_possible_at (pos 0) (possible s) m (length xs) count sums) ≡ Nothing
+  pub never_damaged : (count : ℕ) → first_place m (not_possible_at (pos 0) (possible s) m (length xs) count sums) ≡ None
   unfolding Ready
   never_damaged count =
       ready_found (pos 0) (possible s) m (length xs) count sums some

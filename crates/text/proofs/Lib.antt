@@ -1,5 +1,4 @@
--- Text in a buffer: lists that grow at their end, decimal digits, and the limits of words.
-pub mod Appended
+-- Decimal digits, and the limits of words.
 pub mod Decimals
 pub mod Limits
 pub mod Laws

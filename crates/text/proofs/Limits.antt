@@ -10,6 +10,7 @@ use lib.Dec.{T, ltb, leb, eqb}
 use lib.Ieee.{binary64, in_unsigned, in_float}
 use lib.Ieee.Back.{unsigned_back}
 use lib.Pow.{pow_mono}
+use Rattle.std.specs.Prelude.{Ok}
 use Rattle.laws.proofs.Tests.{cases, and_true}
 use Rattle.settings.specs.Settings.{truncation_in_range}
 use Rattle.meaning.specs.Meaning.{limit, meaning, read_word}
@@ -34,7 +35,7 @@ low_high r w in_r h =
     let b : 2 ^ r ≤ 8 = pow_mono (leb-true r 3 (and_true (leb 1 r) (leb r 3) in_r).1) in
     (mul-le-mul {n₂ = 32752} (omega arith) b, mul-le-mul {n₂ = 32752} (omega arith) b)
 
-of_meaning : (r w : ℕ) → truncation_in_range r ≡ true → WholeLimits (meaning r w)
+of_meaning : (r w : ℕ) → truncation_in_range r ≡ true → WholeLimits (Ok (meaning r w))
 unfolding meaning
 of_meaning r w in_r =
     cases (ltb w 32752)

@@ -1,10 +1,11 @@
 -- Numbers, refusals and what words mean, as bytes in ASCII.
-use Rattle.std.specs.Prelude.{ℕ, zero, suc, ◌/◌, cond, List, [], ◌∷◌, ◌++◌, ltb, Float}
+use Rattle.std.specs.Prelude.{ℕ, zero, suc, ◌/◌, cond, List, [], ◌∷◌, ◌++◌, ltb, Float, Result, Ok, Err}
 use Rattle.std.specs.Float.Ieee.{to_unsigned}
 use Rattle.io.specs.Digits.{last_digits}
 use Rattle.checks.specs.declared.Refusal.{Refusal}
+use Rattle.checks.specs.Told.{number}
 use Rattle.meaning.specs.declared.WordRead.{WordRead}
-use Rattle.meaning.specs.declared.WordRead.TheVariants.{Ordinary, Saturated, Negative, Unassigned, Refused}
+use Rattle.meaning.specs.declared.WordRead.TheVariants.{Ordinary, Saturated, Negative, Unassigned}
 
 -- how many decimal digits a number has, up to k + 1 of them
 unfoldable pub digit_count : ℕ → ℕ → ℕ
@@ -49,12 +50,12 @@ whole_of x = to_unsigned 64 x
 
 -- a refusal's number
 abbrev pub refusal_text : Refusal → List ℕ
-refusal_text r = refused ++ decimal r.number
+refusal_text r = refused ++ decimal (number r.reason)
 
 -- what a word means: the two limits with `..` between, or `sat`, a space and the sample, or `neg`, or `none`
-abbrev pub meaning_text : WordRead → List ℕ
-meaning_text (Ordinary low high) = (decimal (whole_of low) ++ dots) ++ decimal (whole_of high)
-meaning_text (Saturated n) = sat ++ decimal n
-meaning_text Negative = neg
-meaning_text Unassigned = unassigned
-meaning_text (Refused r) = refusal_text r
+abbrev pub meaning_text : Result WordRead Refusal → List ℕ
+meaning_text (Ok (Ordinary low high)) = (decimal (whole_of low) ++ dots) ++ decimal (whole_of high)
+meaning_text (Ok (Saturated n)) = sat ++ decimal n
+meaning_text (Ok Negative) = neg
+meaning_text (Ok Unassigned) = unassigned
+meaning_text (Err r) = refusal_text r

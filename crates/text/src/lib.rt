@@ -1,41 +1,40 @@
-// Text in a buffer that the caller lends, from a place on: bytes, numbers, refusals, and what a word means. Each function answers the place after what it put.
-// What stands from there on is left free.
+// Text at the end of a list of bytes: bytes, numbers, refusals, and what a word means.
+// No Display: its writer may fail, and no contract says that one with room doesn't. These can't fail.
 #![tactic(auto)]
 
-ghost use Rattle.std.specs.Prelude.{◌≡◌, ◌++◌, ◌+◌, ◌≤◌, T, length, take};
+ghost use Rattle.std.specs.Prelude.{◌≡◌, ◌++◌, ◌+◌, ◌≤◌, T, length};
 ghost use Rattle.std.specs.Float.{binary64};
 ghost use Rattle.std.specs.Float.Ieee.{in_unsigned};
-ghost use Rattle.text.specs.Text.{whole_of, dots, refused, decimal, meaning_text};
+ghost use Rattle.arrayvec.specs.ArrayVec.{array_vec_len};
+ghost use Rattle.text.specs.Text.{whole_of, dots, decimal, refusal_text, meaning_text};
 ghost use Rattle.text.specs.Requires.{WholeLimits};
 
+use arrayvec::ArrayVec;
+use checks::Refusal;
 use meaning::WordRead;
 
 // Bytes as they are.
-pub fn put(out: &mut [u8], at: usize, bytes: &[u8]) -> usize
-    requires { at + length bytes.now ≤ length out.old }
-    ensures end { result ≡ at + length bytes.now }
-    ensures text { take result out.new ≡ take at out.old ++ bytes.now }
+pub fn put<const ROOM: usize>(out: &mut ArrayVec<u8, ROOM>, bytes: &[u8])
+    requires { array_vec_len out.old + length bytes.now ≤ ROOM }
+    ensures { out.new.items ≡ out.old.items ++ bytes.now }
 {
-    let mut i = 0;
-    while i < bytes.len() {
-        out[at + i] = bytes[i];
-        i += 1;
+    for byte in bytes {
+        out.push(*byte);
     }
-    at + i
 }
 
 // A number in decimal.
-pub fn put_number(out: &mut [u8], at: usize, n: u64) -> usize
-    requires { at + 20 ≤ length out.old }
-    ensures end { result ≤ at + 20 }
-    ensures text { take result out.new ≡ take at out.old ++ decimal n }
+pub fn put_number<const ROOM: usize>(out: &mut ArrayVec<u8, ROOM>, n: u64)
+    requires { array_vec_len out.old + 20 ≤ ROOM }
+    ensures end { array_vec_len out.new ≤ array_vec_len out.old + 20 }
+    ensures text { out.new.items ≡ out.old.items ++ decimal n }
 {
     let mut digits = [0u8; 20];
     let count = io::decimal(n, &mut digits);
-    put(out, at, &digits[..count])
+    put(out, &digits[..count]);
 }
 
-// A limit, which is a whole number, as one.
+// A limit, which is a whole number, as one. No `From`: the library has none of a float.
 fn whole(limit: f64) -> u64
     requires { T (in_unsigned binary64 64 limit) }
     ensures { result ≡ whole_of limit }
@@ -44,42 +43,42 @@ fn whole(limit: f64) -> u64
 }
 
 // The two limits of an ordinary word.
-fn put_limits(out: &mut [u8], at: usize, low: f64, high: f64) -> usize
-    requires at_in_bounds { at + 42 ≤ length out.old }
+fn put_limits<const ROOM: usize>(out: &mut ArrayVec<u8, ROOM>, low: f64, high: f64)
+    requires room { array_vec_len out.old + 42 ≤ ROOM }
     requires limits_whole { T (in_unsigned binary64 64 low) × T (in_unsigned binary64 64 high) }
-    ensures end { result ≤ at + 42 }
-    ensures text { take result out.new ≡ take at out.old ++ ((decimal (whole_of low) ++ dots) ++ decimal (whole_of high)) }
+    ensures end { array_vec_len out.new ≤ array_vec_len out.old + 42 }
+    ensures text { out.new.items ≡ out.old.items ++ ((decimal (whole_of low) ++ dots) ++ decimal (whole_of high)) }
 {
-    let a = put_number(out, at, whole(low));
-    let b = put(out, a, b"..");
-    put_number(out, b, whole(high))
+    put_number(out, whole(low));
+    put(out, b"..");
+    put_number(out, whole(high));
 }
 
-// A refusal's number.
-pub fn put_refusal(out: &mut [u8], at: usize, number: u8) -> usize
-    requires { at + 28 ≤ length out.old }
-    ensures end { result ≤ at + 28 }
-    ensures text { take result out.new ≡ take at out.old ++ (refused ++ decimal number) }
+// A refusal, by its number.
+pub fn put_refusal<const ROOM: usize>(out: &mut ArrayVec<u8, ROOM>, refusal: Refusal)
+    requires { array_vec_len out.old + 28 ≤ ROOM }
+    ensures end { array_vec_len out.new ≤ array_vec_len out.old + 28 }
+    ensures text { out.new.items ≡ out.old.items ++ refusal_text refusal }
 {
-    let a = put(out, at, b"refused ");
-    put_number(out, a, number as u64)
+    put(out, b"refused ");
+    put_number(out, u64::from(refusal.reason.number()));
 }
 
-// What a word means.
-pub fn put_meaning(out: &mut [u8], at: usize, read: WordRead) -> usize
-    requires at_in_bounds { at + 42 ≤ length out.old }
+// What a word means, or why it was not read.
+pub fn put_meaning<const ROOM: usize>(out: &mut ArrayVec<u8, ROOM>, read: Result<WordRead, Refusal>)
+    requires room { array_vec_len out.old + 42 ≤ ROOM }
     requires whole_limits { WholeLimits read }
-    ensures end { result ≤ at + 42 }
-    ensures text { take result out.new ≡ take at out.old ++ meaning_text read }
+    ensures end { array_vec_len out.new ≤ array_vec_len out.old + 42 }
+    ensures text { out.new.items ≡ out.old.items ++ meaning_text read }
 {
     match read {
-        WordRead::Ordinary { low, high } => put_limits(out, at, low, high),
-        WordRead::Saturated(sample) => {
-            let a = put(out, at, b"sat ");
-            put_number(out, a, sample as u64)
+        Ok(WordRead::Ordinary { low, high }) => put_limits(out, low, high),
+        Ok(WordRead::Saturated(sample)) => {
+            put(out, b"sat ");
+            put_number(out, u64::from(sample));
         }
-        WordRead::Negative => put(out, at, b"neg"),
-        WordRead::Unassigned => put(out, at, b"none"),
-        WordRead::Refused(r) => put_refusal(out, at, r.number),
+        Ok(WordRead::Negative) => put(out, b"neg"),
+        Ok(WordRead::Unassigned) => put(out, b"none"),
+        Err(refusal) => put_refusal(out, refusal),
     }
 }

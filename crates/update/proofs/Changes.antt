@@ -11,7 +11,7 @@ use lib.IntN.{ℤ, pos}
 use lib.ListN.{length, length-set}
 use lib.Seq.{get_or-set_same, get_or-set_other}
 use Rattle.laws.proofs.Tests.{cases}
-use Rattle.checks.specs.declared.Answer.TheVariants.{Taken}
+use Rattle.std.specs.Prelude.{Ok}
 use Rattle.record.specs.declared.Field.{Field}
 use Rattle.record.specs.declared.Field.TheVariants.{Weight, Threshold, Truncation, Samples}
 use Rattle.settings.specs.declared.Settings.{Settings}
@@ -97,7 +97,7 @@ module _ (s : Settings) (bytes : List ℕ) where
     pub resulting_value : value field_count ≡ changed bit
     resulting_value = after field_count h (le_refl field_count)
 
-pub changes_named : (s : Settings) (bytes : List ℕ) → length s.weights ≡ 9 → (update_of s bytes).answer ≡ Taken → (bit : ℕ) → bit < field_count
+pub changes_named : (s : Settings) (bytes : List ℕ) → length s.weights ≡ 9 → (update_of s bytes).answer ≡ Ok tt → (bit : ℕ) → bit < field_count
     → value_in (field_of bit) (update_of s bytes).settings ≡ changed s bytes bit
 unfolding update_of
 changes_named s bytes nine taken bit h = rw taken (resulting_value s bytes nine bit h)

@@ -12,9 +12,8 @@ use Rattle.laws.specs.Lists.{each, every}
 use Rattle.laws.proofs.Tests.{cases, and_true, true_and}
 use Rattle.laws.proofs.Every.{every_all, every_each}
 use Rattle.laws.proofs.Elements.{every_set}
-use Rattle.checks.specs.declared.Answer.{Answer}
-use Rattle.checks.specs.declared.Answer.TheVariants.{Taken, Refused}
-use Rattle.checks.specs.Checks.{verdict, by_answer}
+use Rattle.std.specs.Prelude.{Ok, Err}
+use Rattle.checks.specs.Checks.{Answer, verdict, by_answer}
 use Rattle.checks.proofs.Laws.{verdict_each, both_taken, verdict_rest, when_taken}
 use Rattle.record.specs.declared.Field.{Field}
 use Rattle.record.specs.declared.Field.TheVariants.{Weight, Threshold, Truncation, Samples}
@@ -46,19 +45,19 @@ weights_kept ws i b e =
     )
 
 module _ (s : Settings) (p : Fields s) (v : ℕ) where
-  field_kept : (f : Field) → check_of f v ≡ Taken → Fields (with_field f v s)
+  field_kept : (f : Field) → check_of f v ≡ Ok tt → Fields (with_field f v s)
   field_kept (Weight i) e = record { weights = weights_kept s.weights i v p.weights; threshold = p.threshold; truncation = p.truncation; samples = p.samples }
   field_kept Threshold e = record { weights = p.weights; threshold = not-false _ (when_taken _ _ e); truncation = p.truncation; samples = p.samples }
   field_kept Truncation e = record { weights = p.weights; threshold = p.threshold; truncation = not-false _ (when_taken _ _ e); samples = p.samples }
   field_kept Samples e = record { weights = p.weights; threshold = p.threshold; truncation = p.truncation; samples = not-false _ (when_taken _ _ e) }
 
-bit_kept : (bytes : List ℕ) (bit : ℕ) (s : Settings) → Fields s → field_check bytes bit ≡ Taken → Fields (with_bit bytes bit s)
+bit_kept : (bytes : List ℕ) (bit : ℕ) (s : Settings) → Fields s → field_check bytes bit ≡ Ok tt → Fields (with_bit bytes bit s)
 bit_kept bytes bit s p e =
     cases (stands (map_of bytes) bit)
     (λ t. rw t (field_kept s p (number_of bytes bit) (field_of bit) (rw t at e)))
     (λ t. rw t p)
 
-fields_kept : (bytes : List ℕ) (n : ℕ) (s : Settings) → Fields s → verdict (each (field_check bytes) n) ≡ Taken → Fields (with_bits bytes n s)
+fields_kept : (bytes : List ℕ) (n : ℕ) (s : Settings) → Fields s → verdict (each (field_check bytes) n) ≡ Ok tt → Fields (with_bits bytes n s)
 unfolding with_bits
 fields_kept bytes zero s p e = p
 fields_kept bytes (suc n) s p e =
@@ -71,6 +70,6 @@ stays_in_range s bytes e =
     by (verdict (update_checks bytes))
     (λ t. fields_kept bytes field_count s (fields_of s e) (verdict_rest _ _ (verdict_rest _ _ (verdict_rest _ _ t))))
   where
-    by : (a : Answer) → (a ≡ Taken → Fields (resulting bytes s)) → in_range (by_answer a (resulting bytes s) s) ≡ true
-    by Taken h = of_fields (resulting bytes s) (h refl)
-    by (Refused r) h = e
+    by : (a : Answer) → (a ≡ Ok tt → Fields (resulting bytes s)) → in_range (by_answer a (resulting bytes s) s) ≡ true
+    by (Ok tt) h = of_fields (resulting bytes s) (h refl)
+    by (Err r) h = e

@@ -5,7 +5,8 @@ use mathlib.Core.Path.{◌≡◌}
 use borrow.Author.Tests.{le-ltb, ne_eqb}
 use native.Mathlib.Omega.{arith}
 use lib.ListN.{length}
-use Rattle.checks.specs.declared.Answer.TheVariants.{Refused}
+use Rattle.std.specs.Prelude.{Err}
+use Rattle.checks.specs.declared.Reason.TheVariants.{UnknownField, RecordLength}
 use Rattle.checks.specs.Checks.{refusal, when, verdict}
 use Rattle.settings.specs.declared.Settings.{Settings}
 use Rattle.record.specs.Record.{map_of, field_count, unknown_bit, place_of}
@@ -16,7 +17,7 @@ use Rattle.record.proofs.Fields.{place_small}
 abbrev pub longest : ℕ
 longest = 2 + 2 * field_count
 
-pub overlong : (s : Settings) (bytes : List ℕ) → longest < length bytes → (update_of s bytes).answer ≡ verdict (when (unknown_bit (map_of bytes)) 3 ∷ Refused (refusal 4) ∷ [])
+pub overlong : (s : Settings) (bytes : List ℕ) → longest < length bytes → (update_of s bytes).answer ≡ verdict (when (unknown_bit (map_of bytes)) UnknownField ∷ Err (refusal RecordLength) ∷ [])
 unfolding update_of verdict
 overlong s bytes h =
     rw (le-ltb (length bytes) 2 (omega arith), ne_eqb (length bytes) (place_of (map_of bytes) field_count) (λ e. omega (arith, place_small (map_of bytes) field_count)))

@@ -13,7 +13,7 @@ use Rattle.laws.specs.Lists.{each, every, any_of}
 use Rattle.laws.proofs.Tests.{and_true, true_and}
 use Rattle.laws.proofs.Each.{each_length, each_at}
 use Rattle.laws.proofs.Elements.{every_append, every_made, table}
-use Rattle.checks.specs.declared.Answer.TheVariants.{Taken}
+use Rattle.std.specs.Prelude.{Ok}
 use Rattle.checks.specs.Checks.{verdict}
 use Rattle.checks.proofs.Laws.{verdict_none}
 use Rattle.record.specs.declared.Field.{Field}
@@ -102,7 +102,7 @@ module _ (s : Settings) (p : InRange s) where
   -- a number that means what the settings hold, and is taken
   record Right (f : Field) (v : ℕ) : Type 0 where
     pub meant : meant_by f v ≡ value_in f s
-    pub fine : check_of f v ≡ Taken
+    pub fine : check_of f v ≡ Ok tt
 
   right_threshold : Right Threshold (number_at Threshold bytes (place_of all_fields 9))
   unfolding each place_of stands field_of
@@ -133,10 +133,10 @@ module _ (s : Settings) (p : InRange s) where
       (true_and (every_made (λ b. ltb b 256) weight_byte 9 (λ i h. lt-ltb (weight_byte i) 256 (omega (arith, (weight_code i).small))))
       (rw (lt-ltb (s.threshold % 256) 256 (omega arith), lt-ltb (s.threshold / 256) 256 (omega arith), lt-ltb s.truncation 256 (omega arith), lt-ltb s.samples 256 (omega arith))))
 
-  none_refused : verdict (field_checks bytes) ≡ Taken
+  none_refused : verdict (field_checks bytes) ≡ Ok tt
   none_refused = verdict_none (field_check bytes) field_count (λ bit h. rw (every_stands bit h) (right bit h).fine)
 
-  is_taken : verdict (update_checks bytes) ≡ Taken
+  is_taken : verdict (update_checks bytes) ≡ Ok tt
   unfolding verdict each any_of place_of stands field_of
   is_taken = none_refused
 

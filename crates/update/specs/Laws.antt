@@ -1,16 +1,16 @@
 -- What must be true of an update, beside the contract. `proofs/Laws.antt` shows it.
-use Rattle.std.specs.Prelude.{ℕ, ◌<◌, true, cond, List, [], ◌∷◌, ◌≡◌, ltb, ℤ, pos, length, get_or}
+use Rattle.std.specs.Prelude.{ℕ, ◌<◌, true, cond, List, [], ◌∷◌, ◌≡◌, ltb, ℤ, pos, length, get_or, Ok, Err}
 use Rattle.laws.specs.Lists.{every}
+use Rattle.checks.specs.declared.Reason.{Reason}
+use Rattle.checks.specs.declared.Reason.TheVariants.{ShortRecord, UnknownField, RecordLength, WeightRange, ThresholdRange}
 use Rattle.checks.specs.declared.Refusal.{Refusal}
-use Rattle.checks.specs.declared.Answer.TheVariants.{Taken, Refused}
 use Rattle.checks.specs.Checks.{refusal}
 use Rattle.settings.specs.declared.Settings.{Settings}
 use Rattle.settings.specs.Settings.{max_samples, in_range, with_threshold, with_truncation}
 use Rattle.record.specs.declared.Field.{Field}
 use Rattle.record.specs.declared.Field.TheVariants.{Weight, Threshold, Truncation, Samples}
 use Rattle.record.specs.Record.{stands, map_of, field_count, field_of, number_of, weight_of}
-use Rattle.update.specs.declared.Updated.{Updated}
-use Rattle.update.specs.Update.{update_of}
+use Rattle.update.specs.Update.{Updated, update_of}
 
 -- what settings hold in a field
 abbrev pub value_in : Field → Settings → ℤ
@@ -27,22 +27,22 @@ meant_by Truncation v = pos v
 meant_by Samples v = pos v
 
 abbrev pub taken : Settings → Updated
-taken s = record { answer = Taken; settings = s }
+taken s = record { answer = Ok tt; settings = s }
 
--- refused with a number, at place 0, and nothing changes
-abbrev pub refused_with : ℕ → Settings → Updated
-refused_with n s = record { answer = Refused (refusal n); settings = s }
+-- refused for a reason, at place 0, and nothing changes
+abbrev pub refused_with : Reason → Settings → Updated
+refused_with reason s = record { answer = Err (refusal reason); settings = s }
 
 pub record UpdateLaws : Type 0 where
   -- an update keeps the settings in range, taken or refused
   pub stays_in_range : (s : Settings) (bytes : List ℕ) → in_range s ≡ true → in_range (update_of s bytes).settings ≡ true
   -- a taken update changes exactly the fields whose bit stands
-  pub changes_named : (s : Settings) (bytes : List ℕ) → length s.weights ≡ max_samples → (update_of s bytes).answer ≡ Taken
+  pub changes_named : (s : Settings) (bytes : List ℕ) → length s.weights ≡ max_samples → (update_of s bytes).answer ≡ Ok tt
       → (bit : ℕ) → bit < field_count
       → value_in (field_of bit) (update_of s bytes).settings
       ≡ cond (stands (map_of bytes) bit) (meant_by (field_of bit) (number_of bytes bit)) (value_in (field_of bit) s)
   -- a refused one changes nothing
-  pub refused_changes_nothing : (s : Settings) (bytes : List ℕ) (r : Refusal) → (update_of s bytes).answer ≡ Refused r → (update_of s bytes).settings ≡ s
+  pub refused_changes_nothing : (s : Settings) (bytes : List ℕ) (r : Refusal) → (update_of s bytes).answer ≡ Err r → (update_of s bytes).settings ≡ s
   -- the record 00 00 is taken and changes nothing
   pub empty_map : (s : Settings) → update_of s (0 ∷ 0 ∷ []) ≡ taken s
   -- the record 00 06 1F 33 03 (hexadecimal): threshold 13,087 and r = 3
@@ -50,14 +50,14 @@ pub record UpdateLaws : Type 0 where
   -- 2 to 4, each by a record that is just past what is taken (hexadecimal): no byte, one byte; map bits 12 and 15; a byte too few, one too many. A
   -- threshold of 16,384: 6. Weight byte 32 and then N = 0: 5
   pub known_refusals : (s : Settings)
-      → (update_of s [] ≡ refused_with 2 s)
-      × (update_of s (0x00 ∷ []) ≡ refused_with 2 s)
-      × (update_of s (0x00 ∷ 0x10 ∷ []) ≡ refused_with 3 s)
-      × (update_of s (0x00 ∷ 0x80 ∷ []) ≡ refused_with 3 s)
-      × (update_of s (0x00 ∷ 0x02 ∷ 0x00 ∷ []) ≡ refused_with 4 s)
-      × (update_of s (0x00 ∷ 0x00 ∷ 0x00 ∷ []) ≡ refused_with 4 s)
-      × (update_of s (0x00 ∷ 0x02 ∷ 0x00 ∷ 0x40 ∷ []) ≡ refused_with 6 s)
-      × (update_of s (0x01 ∷ 0x08 ∷ 0x20 ∷ 0x00 ∷ []) ≡ refused_with 5 s)
+      → (update_of s [] ≡ refused_with ShortRecord s)
+      × (update_of s (0x00 ∷ []) ≡ refused_with ShortRecord s)
+      × (update_of s (0x00 ∷ 0x10 ∷ []) ≡ refused_with UnknownField s)
+      × (update_of s (0x00 ∷ 0x80 ∷ []) ≡ refused_with UnknownField s)
+      × (update_of s (0x00 ∷ 0x02 ∷ 0x00 ∷ []) ≡ refused_with RecordLength s)
+      × (update_of s (0x00 ∷ 0x00 ∷ 0x00 ∷ []) ≡ refused_with RecordLength s)
+      × (update_of s (0x00 ∷ 0x02 ∷ 0x00 ∷ 0x40 ∷ []) ≡ refused_with ThresholdRange s)
+      × (update_of s (0x01 ∷ 0x08 ∷ 0x20 ∷ 0x00 ∷ []) ≡ refused_with WeightRange s)
   -- from any settings one record of bytes leads to any settings in range
   pub reachable : (s t : Settings) → in_range s ≡ true → length t.weights ≡ max_samples
       → (bytes : List ℕ) × (every (λ b. ltb b 256) bytes ≡ true) × (update_of t bytes ≡ taken s)

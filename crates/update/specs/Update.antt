@@ -1,20 +1,24 @@
 -- Update: its checks, and its outcome.
 use Rattle.std.specs.Prelude.{ℕ, not, List, ◌∷◌, ltb, eqb, length}
-use Rattle.checks.specs.declared.Answer.{Answer}
-use Rattle.checks.specs.Checks.{when, verdict, by_answer}
+use Rattle.checks.specs.declared.Reason.TheVariants.{ShortRecord, UnknownField, RecordLength}
+use Rattle.checks.specs.Checks.{Answer, when, verdict, by_answer}
 use Rattle.record.specs.Record.{map_of, field_count, unknown_bit, place_of}
 use Rattle.settings.specs.declared.Settings.{Settings}
 use Rattle.fields.specs.Fields.{field_checks}
 pub use Rattle.fields.specs.Fields.{resulting}
-use Rattle.update.specs.declared.Updated.{Updated}
 
 -- 2: under two bytes. 3: a map bit from 12 to 15 stands. 4: not the length that the map calls for. Then the checks of the fields, from the lowest bit up
 abbrev pub update_checks : List ℕ → List Answer
 update_checks bytes =
-    when (ltb (length bytes) 2) 2
-    ∷ when (unknown_bit (map_of bytes)) 3
-    ∷ when (not (eqb (length bytes) (place_of (map_of bytes) field_count))) 4
+    when (ltb (length bytes) 2) ShortRecord
+    ∷ when (unknown_bit (map_of bytes)) UnknownField
+    ∷ when (not (eqb (length bytes) (place_of (map_of bytes) field_count))) RecordLength
     ∷ field_checks bytes
+
+-- what an update answers, and the settings as it leaves them
+pub record Updated : Type 0 where
+  pub answer : Answer
+  pub settings : Settings
 
 -- taken whole, or not at all
 unfoldable pub update_of : Settings → List ℕ → Updated

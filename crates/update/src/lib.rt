@@ -2,40 +2,21 @@
 #![tactic(auto)]
 
 ghost use Rattle.std.specs.Prelude.{◌≡◌};
+ghost use Rattle.checks.specs.Checks.{or_refused};
 ghost use Rattle.update.specs.Update.{update_of};
 
-use checks::Answer;
+use checks::{Reason, Refusal, refuse_when};
 use fields::decode;
-use record::{FIELDS, pair};
+use record::{FIELDS, end_of, pair};
 use settings::Settings;
 
-// What an update answers, with the settings as it leaves them.
-#[derive(Clone, Copy)]
-pub struct Updated {
-    pub answer: Answer,
-    pub settings: Settings,
-}
-
 // Update: the record is taken whole, or refused and nothing changes.
-pub fn update(before: Settings, bytes: &[u8]) -> Updated
-    ensures { result ≡ update_of before bytes.now }
+pub fn update(before: Settings, bytes: &[u8]) -> Result<Settings, Refusal>
+    ensures { result ≡ or_refused (update_of before bytes.now).answer (update_of before bytes.now).settings }
 {
     let map = pair(bytes, 0);
-    let decoded = decode(before, bytes);
-    let next = decoded.settings;
-    let fields = decoded.answer;
-    let short = Answer::when(bytes.len() < 2, checks::SHORT_RECORD);
-    let unknown = Answer::when(map >> FIELDS != 0, checks::UNKNOWN_FIELD);
-    let length = Answer::when(bytes.len() != decoded.end, checks::RECORD_LENGTH);
-    let answer = short.then(unknown.then(length.then(fields)));
-    match answer {
-        Answer::Taken => Updated {
-            answer: answer,
-            settings: next,
-        },
-        Answer::Refused(_) => Updated {
-            answer: answer,
-            settings: before,
-        },
-    }
+    refuse_when(bytes.len() < 2, Reason::ShortRecord)?;
+    refuse_when(map >> FIELDS != 0, Reason::UnknownField)?;
+    refuse_when(bytes.len() != end_of(map), Reason::RecordLength)?;
+    decode(before, bytes)
 }

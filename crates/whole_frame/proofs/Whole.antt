@@ -13,7 +13,8 @@ use lib.IntN.{ℤ, pos}
 use lib.ListN.{length}
 use Rattle.laws.specs.Lists.{every}
 use Rattle.laws.proofs.Tests.{cases}
-use Rattle.checks.specs.declared.Answer.TheVariants.{Taken}
+use Rattle.std.specs.Prelude.{Ok}
+use Rattle.checks.specs.declared.Reason.TheVariants.{ReadingsWanted, WordsLength}
 use Rattle.checks.specs.Checks.{when, first, verdict}
 use Rattle.checks.proofs.Laws.{first_taken, verdict_append, both_taken}
 use Rattle.checks.proofs.Search.{found_every}
@@ -52,7 +53,7 @@ frame_is w h binned bytes xs sums output =
     let r = (read_out b xs sums output).answer in
     begun_then w h binned bytes (f ∷ r ∷ []) ∙ ap (λ a. first (begun w h binned bytes).answer (first f a)) (first_taken r)
 
-module _ (b : Board) (none : b.fed ≡ 0) (xs : List ℕ) (sums : List ℤ) (taken : verdict (feed_checks b xs sums) ≡ Taken) where
+module _ (b : Board) (none : b.fed ≡ 0) (xs : List ℕ) (sums : List ℤ) (taken : verdict (feed_checks b xs sums) ≡ Ok tt) where
   parts : FeedTaken b xs sums
   parts = feed_taken b xs sums taken
 
@@ -82,7 +83,7 @@ module _ (b : Board) (none : b.fed ≡ 0) (xs : List ℕ) (sums : List ℤ) (tak
   unfolding feed_of fed_sums read_out_of left
   after output = rw (taken, none)
 
-  ramp_after : verdict (ramp_checks (extended (length xs) b) (length left)) ≡ Taken
+  ramp_after : verdict (ramp_checks (extended (length xs) b) (length left)) ≡ Ok tt
   unfolding feed_of
   ramp_after =
       ramp_passes _ _ (record {
@@ -92,7 +93,7 @@ module _ (b : Board) (none : b.fed ≡ 0) (xs : List ℕ) (sums : List ℤ) (tak
       })
 
   pub then_read_out : (output : List ℕ) → (read_out b xs sums output).answer
-      ≡ first (when (ltb (length xs) (wanted b)) 15) (when (not (eqb (length output) (word_count b.binned (area b)))) 16)
+      ≡ first (when (ltb (length xs) (wanted b)) ReadingsWanted) (when (not (eqb (length output) (word_count b.sides.binned (area b)))) WordsLength)
   unfolding verdict
   then_read_out output =
       let z : b.fed + length xs ≡ length xs = omega arith in
@@ -101,8 +102,8 @@ module _ (b : Board) (none : b.fed ≡ 0) (xs : List ℕ) (sums : List ℤ) (tak
       (λ e. rw e)
       (λ e. rw (e, found_every (possible b.in_force b.in_force.samples) left (pos 0) (entries_possible (ltb-false _ _ e))) (first_taken _)))
 
-module _ (b : Board) (xs : List ℕ) (sums : List ℤ) (output : List ℕ) (taken : first (fed b xs sums).answer (read_out b xs sums output).answer ≡ Taken) where
-  feed_passed : verdict (feed_checks b xs sums) ≡ Taken
+module _ (b : Board) (xs : List ℕ) (sums : List ℤ) (output : List ℕ) (taken : first (fed b xs sums).answer (read_out b xs sums output).answer ≡ Ok tt) where
+  feed_passed : verdict (feed_checks b xs sums) ≡ Ok tt
   unfolding feed_of
   feed_passed = (both_taken (fed b xs sums).answer _ taken).0
 
@@ -117,13 +118,13 @@ module _ (b : Board) (xs : List ℕ) (sums : List ℤ) (output : List ℕ) (take
   unfolding fed_sums
   sums_are = rw feed_passed
 
-  read_out_passed : verdict (read_out_checks (extended (length xs) b) summed output) ≡ Taken
+  read_out_passed : verdict (read_out_checks (extended (length xs) b) summed output) ≡ Ok tt
   unfolding feed_of fed_sums read_out_of
   read_out_passed = rw feed_passed at (both_taken (fed b xs sums).answer _ taken).1
 
-  pub frame_readable : Readable b.width b.height b.binned b.in_force.truncation summed output
+  pub frame_readable : Readable b.sides.width b.sides.height b.sides.binned b.in_force.truncation summed output
   frame_readable = readable_frame (extended (length xs) b) summed output (read_out_taken (extended (length xs) b) summed output read_out_passed)
 
-  pub words_are : read_out_words (fed b xs sums).board (fed_sums b xs sums) output ≡ frame_of b.width b.binned b.in_force.truncation summed
+  pub words_are : read_out_words (fed b xs sums).board (fed_sums b xs sums) output ≡ frame_of b.sides.width b.sides.binned b.in_force.truncation summed
   unfolding feed_of fed_sums read_out_words
   words_are = rw (feed_passed, read_out_passed)

@@ -1,10 +1,9 @@
 -- One frame: a board is opened, updated with a record and started, all readings are fed at once, and the frame is read out. Each operation gets the board that
 -- the one before left, and Read out the sums that Feed left.
 use Rattle.std.specs.Prelude.{ℕ, Bool, List, [], ◌∷◌, ℤ}
-use Rattle.checks.specs.declared.Answer.{Answer}
-use Rattle.checks.specs.Checks.{verdict, by_answer}
+use Rattle.checks.specs.Checks.{Answer, verdict, by_answer}
 use Rattle.board.specs.declared.Board.{Board}
-use Rattle.board.specs.declared.Outcome.{Outcome}
+use Rattle.board.specs.Board.{Outcome}
 use Rattle.board.specs.Open.{open_of}
 use Rattle.begin.specs.Begun.{updated, started}
 use Rattle.operations.specs.Feed.{feed_of, fed_sums}

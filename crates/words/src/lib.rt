@@ -1,28 +1,21 @@
-// From the entry of a pixel, or the four of a square, to the word.
+// From the entry of a pixel, or the four of a square, to the word. Entries stand in a lent slice of plain numbers, so their range stands in each contract.
 #![tactic(auto)]
 
 ghost use Rattle.std.specs.Prelude.{◌≡◌, true, cond, [], ◌∷◌, ◌+◌, ◌^◌, ◌<◌, ◌≤◌, pos, nat_abs, ◌+ℤ◌, ◌-ℤ◌, ◌≤ℤ◌};
-ghost use Rattle.std.specs.Int.Signed.{le_z, lt_z};
+ghost use Rattle.std.specs.Int.Signed.{lt_z};
 ghost use Rattle.settings.specs.Settings.{truncation_in_range};
 ghost use Rattle.entries.specs.Mark.{marked};
 ghost use Rattle.encoding.specs.Word.{word_of, cut_by};
 ghost use Rattle.entries.specs.Range.{entry_in_range};
 
 use entries::MARK;
-use numbers::wrapping_add;
 
 // An entry and 2^30, modulo 2^32: a sum is then above 0, and a mark below it, of two marks the earlier one lower. The total of four is left as it was.
 fn raised(entry: i32) -> i32
     requires { entry_in_range entry ≡ true }
     ensures { result ≡ cond (marked entry) (entry -ℤ pos 3221225472) (entry +ℤ pos 1073741824) }
 {
-    wrapping_add(entry, MARK)
-}
-
-fn smaller(a: i32, b: i32) -> i32
-    ensures { result ≡ cond (le_z a b) a b }
-{
-    if a <= b { a } else { b }
+    entry.wrapping_add(MARK)
 }
 
 // The sign is taken before anything is cut off: a negative total has ones throughout.
@@ -68,7 +61,7 @@ pub fn square_word(a: i32, b: i32, c: i32, d: i32, truncation: u16) -> u16
     let q = raised(b);
     let s = raised(c);
     let t = raised(d);
-    let first = smaller(smaller(p, q), smaller(s, t));
-    let total = wrapping_add(wrapping_add(p, q), wrapping_add(s, t));
+    let first = p.min(q).min(s.min(t));
+    let total = p.wrapping_add(q).wrapping_add(s.wrapping_add(t));
     flagged(first < 0, first & 15, cut_off(total, truncation + 2))
 }

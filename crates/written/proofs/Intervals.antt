@@ -14,7 +14,7 @@ use native.Mathlib.Omega.{arith}
 use lib.Dec.{leb, ltb}
 use lib.ListN.{get_or}
 use Rattle.laws.proofs.Tests.{cases}
-use Rattle.checks.specs.declared.Found.TheVariants.{Nothing}
+use Rattle.std.specs.Prelude.{None}
 use Rattle.checks.specs.Search.{or_else, first_place, shifted}
 use Rattle.checks.proofs.Search.{nowhere, found_none, found_same, found_append, found_cut, else_none}
 use Rattle.written.specs.Written.{samples_written}
@@ -79,7 +79,7 @@ module _ {E : Type 0} (absent : E) (test : ℕ → E → Bool) (m f count : ℕ)
       ∙ found_same (λ i. bad (q + i)) (λ i. fails c (q + i)) (high - q)
       (λ i k. at_high (q + i) (omega arith) ∙ rw (le-leb 1 c h, lt-ltb (q + i) (q + count) (omega arith)))
 
-  none_high : c ≡ 0 → first_place (m - q) (λ i. bad (q + i)) ≡ Nothing
+  none_high : c ≡ 0 → first_place (m - q) (λ i. bad (q + i)) ≡ None
   none_high e = nowhere (λ i. bad (q + i)) (m - q) (λ i k. at_high (q + i) (omega arith) ∙ rw e)
 
   whole : first_place m bad ≡ or_else (first_place q bad) (shifted q (first_place (m - q) (λ i. bad (q + i))))
@@ -93,14 +93,14 @@ module _ {E : Type 0} (absent : E) (test : ℕ → E → Bool) (m f count : ℕ)
   pub written_first : c ≡ 0 → first_place m bad ≡ first_place low (fails (c + 1))
   written_first e = whole ∙ rw (low_part, none_high e) (else_none (first_place low (fails (c + 1))))
 
-  pub written_ready : first_place m bad ≡ Nothing → Ready absent test m f count ss
+  pub written_ready : first_place m bad ≡ None → Ready absent test m f count ss
   unfolding Ready
   written_ready e p k h lo hi brought pos =
       let w = next f m some p h in
       let d : samples_written m f p ≡ k = same_sample m p (samples_written m f p) k (omega arith) (omega arith) in
       not-false _ (rw (d, le-leb 1 k pos, lt-ltb (k * m + p) (f + count) brought) at (found_none bad m e p h))
 
-  pub ready_found : Ready absent test m f count ss → first_place m bad ≡ Nothing
+  pub ready_found : Ready absent test m f count ss → first_place m bad ≡ None
   unfolding Ready
   ready_found ready =
       nowhere bad m
@@ -109,6 +109,6 @@ module _ {E : Type 0} (absent : E) (test : ℕ → E → Bool) (m f count : ℕ)
       none_fails (leb 1 k) (ltb (k * m + p) (f + count)) (test k (get_or ss p absent))
       (λ written brought. ready p k h w.0 w.1 (ltb-true (k * m + p) (f + count) brought) (leb-true 1 k written)))
 
-  pub written_none : count ≡ 0 → first_place m bad ≡ Nothing
+  pub written_none : count ≡ 0 → first_place m bad ≡ None
   unfolding Ready
   written_none e = ready_found (λ p k h lo hi brought pos. absurd (omega arith))

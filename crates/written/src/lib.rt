@@ -1,50 +1,37 @@
 // Check 14 of Feed: of the entries that the ramp has written and that this Feed brings a reading for, the first that isn't possible.
 #![tactic(auto)]
 
-ghost use Rattle.std.specs.Prelude.{◌≡◌, not, ℕ, ◌+◌, ◌*◌, ◌-◌, ◌^◌, ◌≤◌, ◌<◌, pos, length, get_or};
+ghost use Rattle.std.specs.Prelude.{◌≡◌, not, ◌+◌, ◌*◌, ◌-◌, ◌≤◌, ◌<◌, pos, length, get_or};
 ghost use Rattle.settings.specs.Settings.{max_samples};
-ghost use Rattle.checks.specs.Search as Search;
-ghost use Rattle.checks.specs.Search.{first_place};
+ghost use Rattle.checks.specs.Search.{first_place, shifted};
 ghost use Rattle.entries.specs.Possible.{possible_after};
 ghost use Rattle.written.specs.Written.{not_possible_at};
 
-use checks::Found;
 use impossible::first_impossible;
-use numbers::{beyond, least};
-
-// A place of a part, as a place of the whole.
-fn shifted(found: Found, start: usize) -> Found
-    requires { (p : ℕ) → found ≡ Found.At p → start + p < 2 ^ 64 }
-    ensures { result ≡ Search.shifted start found }
-{
-    match found {
-        Found::At(p) => Found::At(start + p),
-        Found::Nothing => found,
-    }
-}
 
 // The first from `start` to `end` that isn't possible for k.
-fn first_between(sums: &[i32], start: usize, end: usize, k: usize) -> Found
+fn first_between(sums: &[i32], start: usize, end: usize, k: usize) -> Option<usize>
     requires { (start ≤ end) × (end ≤ length sums.now) × (1 ≤ k) × (k ≤ max_samples) }
-    ensures { result ≡ Search.shifted start (first_place (end - start) (λ i. not (possible_after k (get_or sums.now (start + i) (pos 0))))) }
+    ensures { result ≡ shifted start (first_place (end - start) (λ i. not (possible_after k (get_or sums.now (start + i) (pos 0))))) }
 {
-    shifted(first_impossible(&sums[start..end], k), start)
+    first_impossible(&sums[start..end], k).map(|place| start + place)
 }
 
 // The pixels before q have had c + 1 samples, and the first of them get another reading; those from q on have had c.
-pub fn first_not_possible(sums: &[i32], fed: usize, count: usize) -> Found
+pub fn first_not_possible(sums: &[i32], fed: usize, count: usize) -> Option<usize>
     requires { (0 < length sums.now) × (length sums.now ≤ 1048576) × (fed + count ≤ max_samples * length sums.now) }
     ensures { result ≡ first_place (length sums.now) (not_possible_at (pos 0) possible_after (length sums.now) fed count sums.now) }
 {
     if count == 0 {
-        return Found::Nothing;
+        return None;
     }
     let m = sums.len();
     let c = fed / m;
     let q = fed % m;
-    let low = first_between(sums, 0, least(q, beyond(q + count, m)), c + 1);
+    let low = first_between(sums, 0, q.min((q + count).saturating_sub(m)), c + 1);
     if c == 0 {
         return low;
     }
-    low.or_else(first_between(sums, q, least(q + count, m), c))
+    let end = (q + count).min(m);
+    low.or_else(|| first_between(sums, q, end, c))
 }

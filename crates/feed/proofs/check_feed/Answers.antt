@@ -1,16 +1,19 @@
 -- `feed::check_feed` meets its contract.
-use mathlib.Core.Path.{sym, ◌∙◌}
+use Rattle.std.proofs.Common.{sym}
+use Rattle.std.proofs.lemmas.Result.{err_from_is_err_and}
 use Rattle.checks.proofs.Laws.{verdict_append}
 use Rattle.board.proofs.Checked.{ramp_taken}
 use Rattle.feed.proofs.check_feed.Goals as goal
 
+pub returns-in_err-check_ramp : goal.returns-in_err-check_ramp
+returns-in_err-check_ramp c =
+    let p = err_from_is_err_and c.from_residual.result c.from_residual.ensures.1 in
+    rw (p.1, p.2, verdict_append, ← c.in_err-check_ramp.ensures)
+
 pub check_readings-requires : goal.check_readings-requires
 check_readings-requires c =
-    let t = ramp_taken _ _ (sym c.check_ramp-begin.ensures ∙ c.in-Taken.is) in
+    let t = ramp_taken _ _ (sym c.in_ok-check_ramp.ensures) in
     (t.whole, t.length_is)
 
-pub returns-in-Taken : goal.returns-in-Taken
-returns-in-Taken c = rw (verdict_append, ← c.check_ramp-begin.ensures, c.in-Taken.is) c.check_readings.ensures
-
-pub returns-in-Refused : goal.returns-in-Refused
-returns-in-Refused c = rw (verdict_append, ← c.check_ramp-begin.ensures, c.in-Refused.is)
+pub returns : goal.returns
+returns c = rw (verdict_append, ← c.in_ok-check_ramp.ensures) c.check_readings.ensures

@@ -1,6 +1,5 @@
 -- `layout::write_pixels` meets its contract.
 use Rattle.std.proofs.Common.{◌≡◌, ◌∙◌, sym, rules, arith, length, pos, false, get_or}
-use lib.ListN.{length-set}
 use lib.Seq.{take_all}
 use Rattle.laws.specs.Lists.{each}
 use Rattle.laws.proofs.Each.{each_store}
@@ -16,14 +15,11 @@ pub loop-i-preserved : goal.loop-i-preserved
 unfolding pixels_of word_at
 loop-i-preserved c =
     let l = c.loop-i in
-    let e = rw (held (get_or c.args.sums.now l.i (pos 0)) (c.requires.entries l.i)) at c.pixel_word.ensures in (
-      omega arith,
-      simp length-set l.invariant.1,
-      each_store (word_at c.args.width false c.args.truncation c.args.sums.now) l.words l.i c.pixel_word.result (omega arith) l.invariant.2 e,
-    )
+    let e = rw (held (get_or c.args.sums.now l.i (pos 0)) (c.requires.entries l.i)) at c.pixel_word.ensures in
+    each_store (word_at c.args.sides.width false c.args.truncation c.args.sums.now) l.words l.i c.pixel_word.result (omega arith) l.invariant e
 
 pub returns : goal.returns
 unfolding frame_of
 returns c =
     let n : c.loop-i.i ≡ length c.args.sums.now = omega (arith, c.requires.pixels, c.requires.room) in
-    sym (take_all c.loop-i.i c.loop-i.words (omega arith)) ∙ c.loop-i.invariant.2 ∙ rw n
+    sym (take_all c.loop-i.i c.loop-i.words (omega arith)) ∙ c.loop-i.invariant ∙ rw n

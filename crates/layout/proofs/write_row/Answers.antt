@@ -1,6 +1,5 @@
 -- `layout::write_row` meets its contract.
 use Rattle.std.proofs.Common.{◌+◌, ◌*◌, rules, arith, pos, get_or}
-use lib.ListN.{length-set}
 use Rattle.laws.specs.Lists.{each}
 use Rattle.laws.proofs.Each.{each_store}
 use Rattle.layout.specs.Requires.{row_word}
@@ -23,8 +22,5 @@ loop-i-preserved c =
       held (get_or a (k + 1) (pos 0)) (c.requires.by_index (k + 1)),
       held (get_or b k (pos 0)) (c.requires.by_index_2 k),
       held (get_or b (k + 1) (pos 0)) (c.requires.by_index_2 (k + 1)),
-    ) at c.square_word.ensures in (
-      omega arith,
-      simp length-set l.invariant.1,
-      each_store (row_word c.args.truncation a b) l.words l.i c.square_word.result (omega arith) l.invariant.2 e,
-    )
+    ) at c.square_word.ensures in
+    each_store (row_word c.args.truncation a b) l.words l.i c.square_word.result (omega arith) l.invariant e

@@ -16,19 +16,14 @@ pub loop-row-init : goal.loop-row-init
 unfolding each
 loop-row-init c = search rules
 
-pub offset_bounds-sums-at : goal.offset_bounds-sums-at
-offset_bounds-sums-at c =
-    let e = row_left c.args.width c.args.height c.loop-row.row _ _ _ _ (c.requires.even refl) c.requires.pixels c.requires.room c.loop-row-test.true c.loop-row.invariant.2 c.loop-row.invariant.3 in
-    omega (arith, e)
-
-pub slice_bounds-write_row-end : goal.slice_bounds-write_row-end
-slice_bounds-write_row-end c =
-    let e = row_left c.args.width c.args.height c.loop-row.row _ _ _ _ (c.requires.even refl) c.requires.pixels c.requires.room c.loop-row-test.true c.loop-row.invariant.2 c.loop-row.invariant.3 in
-    omega (arith, e)
-
 pub slice_bounds-write_row-end-in-loop-row : goal.slice_bounds-write_row-end-in-loop-row
 slice_bounds-write_row-end-in-loop-row c =
-    let e = row_left c.args.width c.args.height c.loop-row.row _ _ _ _ (c.requires.even refl) c.requires.pixels c.requires.room c.loop-row-test.true c.loop-row.invariant.2 c.loop-row.invariant.3 in
+    let e = row_left c.args.sides.width c.args.sides.height c.loop-row.row _ _ (c.requires.even refl) c.requires.pixels c.requires.room c.loop-row-test.true in
+    omega (arith, e)
+
+pub slice_bounds-write_row-end-in-loop-row-2 : goal.slice_bounds-write_row-end-in-loop-row-2
+slice_bounds-write_row-end-in-loop-row-2 c =
+    let e = row_left c.args.sides.width c.args.sides.height c.loop-row.row _ _ (c.requires.even refl) c.requires.pixels c.requires.room c.loop-row-test.true in
     omega (arith, e)
 
 pub write_row-requires-clause-by_index : goal.write_row-requires-clause-by_index
@@ -41,31 +36,27 @@ write_row-requires-clause-by_index_2 c = part_keeps (λ z. entry_in_range z ≡ 
 
 pub loop-row-preserved : goal.loop-row-preserved
 loop-row-preserved c =
-    let w = c.args.width in
+    let w = c.args.sides.width in
     let h = w / 2 in
     let l = c.loop-row in
+    let row = l.row in
     let xs = c.args.sums.now in
     let r = c.args.truncation in
-    let e = row_left w c.args.height l.row l.at l.to (length xs) (length c.args.words.now) (c.requires.even refl) c.requires.pixels c.requires.room c.loop-row-test.true l.invariant.2 l.invariant.3 in
-    let q : length (take h (drop l.to l.words)) ≡ h = part_length l.words l.to h (omega (arith, e)) in
+    let e = row_left w c.args.sides.height row (length xs) (length c.args.words.now) (c.requires.even refl) c.requires.pixels c.requires.room c.loop-row-test.true in
+    let q : length (take h (drop (row * h) l.words)) ≡ h = part_length l.words (row * h) h (omega (arith, e)) in
     let x = simp (add-sub_cancel_left, q) at c.write_row.ensures in
     let f = word_at w true r xs in
-    let g = row_word r (take w (drop l.at xs)) (take w (drop (l.at + w) xs)) in
-    let m = each_part f g l.to h (drop h (drop l.to l.words)) (λ i k. row_word_lem w h l.row i r l.at l.to xs e.0 refl k l.invariant.2 l.invariant.3) in (
-      omega arith,
-      search rules,
-      omega (arith, add-mul l.row 1 h, one-mul h),
-      omega (arith, e),
-      simp (add-sub_cancel_left, x, l.invariant.4) m,
-    )
+    let g = row_word r (take w (drop (2 * row * w) xs)) (take w (drop (2 * row * w + w) xs)) in
+    let m = each_part f g (row * h) h (drop h (drop (row * h) l.words)) (λ i k. row_word_lem w h row i r xs e.0 refl k) in
+    simp (add-sub_cancel_left, x, l.invariant, add-mul row 1 h, one-mul h) m
 
 pub returns : goal.returns
 unfolding frame_of
 returns c =
     let l = c.loop-row in
-    let w = c.args.width in
-    let e = sides w c.args.height (c.requires.even refl) in
-    let r : l.row ≡ c.args.height / 2 = omega arith in
-    let t : l.to ≡ c.args.height / 2 * (w / 2) = l.invariant.2 ∙ rw r in
-    let d : length c.args.sums.now / 4 ≡ l.to = omega (arith, c.requires.pixels, e) in
-    sym (take_all l.to l.words (omega (arith, c.requires.pixels, c.requires.room, e))) ∙ l.invariant.4 ∙ rw d
+    let w = c.args.sides.width in
+    let e = sides w c.args.sides.height (c.requires.even refl) in
+    let r : l.row ≡ c.args.sides.height / 2 = omega arith in
+    let t = rw r at l.invariant in
+    let d : length c.args.sums.now / 4 ≡ c.args.sides.height / 2 * (w / 2) = omega (arith, c.requires.pixels, e) in
+    sym (take_all (c.args.sides.height / 2 * (w / 2)) l.words (omega (arith, c.requires.pixels, c.requires.room, e))) ∙ t ∙ rw d

@@ -1,10 +1,11 @@
 -- The lines so far.
-use Rattle.std.proofs.Common.{◌≡◌, ◌+◌, ◌-◌, ◌*◌, ◌≤◌, ◌++◌, length, take}
+use Rattle.std.proofs.Common.{◌≡◌, ◌+◌, ◌*◌, ◌≤◌, ◌++◌}
+use Rattle.arrayvec.specs.ArrayVec.{array_vec_len}
 use Rattle.lines.specs.Lines.{lines_text}
 use Rattle.lines.proofs.put_lines.Given as goal
 
 abbrev pub invariant-loop-i : goal.invariant-loop-i
-invariant-loop-i l = (l.i ≤ l.count) × (length l.out ≡ length l.initial.out) × (l.end ≤ l.at + l.i * 106) × (take l.end l.out ≡ take l.at l.initial.out ++ lines_text l.columns l.truncation l.words l.i)
-
-abbrev pub decreases-loop-i : goal.decreases-loop-i
-decreases-loop-i l = l.count - l.i
+invariant-loop-i g l = record {
+  end : array_vec_len l.out ≤ array_vec_len l.initial.out + l.i * 106;
+  text : l.out.items ≡ l.initial.out.items ++ lines_text l.columns l.truncation l.words l.i;
+}

@@ -1,6 +1,6 @@
 -- One reading more, and all of them.
-use Rattle.std.proofs.Common.{◌≡◌, ◌<◌, length, sym, arith, add-one, length-set}
-use Rattle.std.proofs.Math.Seq.{take-suc, take-suc-set, take_all}
+use Rattle.std.proofs.Common.{◌<◌, length, arith, add-one}
+use Rattle.std.proofs.Math.Seq.{take-suc, take-suc-set}
 use Rattle.pairs.specs.Pairs.{pairs}
 use Rattle.pairs.proofs.Pairs.{pairs_at, pairs_length}
 use Rattle.pairs.proofs.decode.Goals as goal
@@ -11,10 +11,4 @@ loop-i-preserved c =
     let bytes = c.args.bytes.now in
     let h : l.i < length l.readings = omega arith in
     let k : l.i < length (pairs bytes) = rw (pairs_length bytes) (omega arith) in
-    (rw length-set (omega arith), rw length-set l.invariant.1, rw (add-one l.i, take-suc-set l.readings l.i c.pair.result h, take-suc (pairs bytes) l.i 0 k, pairs_at bytes l.i k, c.pair.ensures, l.invariant.2))
-
-pub returns : goal.returns
-returns c =
-    let l = c.loop-i in
-    let e : l.i ≡ length c.args.readings.now = omega arith in
-    rw (← e, ← l.invariant.2) (sym (take_all l.i l.readings (omega arith)))
+    rw (add-one l.i, take-suc-set l.readings l.i c.pair.result h, take-suc (pairs bytes) l.i 0 k, pairs_at bytes l.i k, c.pair.ensures, l.invariant)

@@ -3,7 +3,7 @@ use mathlib.Core.Path.{◌≡◌, refl}
 use Prim.Native.Nat.{ℕ, ◌+◌, ◌<◌}
 use native.Mathlib.Omega.{arith}
 use lib.IntN.{ℤ, pos}
-use lib.ListN.{length, take, get_or, set, length-set}
+use lib.ListN.{length, take, get_or, set}
 use Rattle.laws.specs.Lists.{over}
 use Rattle.laws.proofs.Every.{every_at}
 use Rattle.laws.proofs.Over.{over_at_lem, over_more}
@@ -14,14 +14,14 @@ use Rattle.ramp.proofs.feed_part.Goals as goal
 
 pub loop-i-init : goal.loop-i-init
 unfolding over
-loop-i-init c = (omega arith, refl, refl)
+loop-i-init c = refl
 
 pub accumulate-requires-clause-reading_value : goal.accumulate-requires-clause-reading_value
 accumulate-requires-clause-reading_value c = every_at reading_in_range c.args.readings.now c.requires.readings_value 0 c.loop-i.i (omega arith)
 
 pub accumulate-requires-clause-stored_value : goal.accumulate-requires-clause-stored_value
 accumulate-requires-clause-stored_value c p =
-    rw (c.loop-i.invariant.2, over_at_lem) (every_at entry_in_range c.args.sums.now (c.requires.sums_value p) (pos 0) c.loop-i.i (omega arith))
+    rw (c.loop-i.invariant, over_at_lem) (every_at entry_in_range c.args.sums.now (c.requires.sums_value p) (pos 0) c.loop-i.i (omega arith))
 
 -- one turn, on plain values
 turn : (f : ℕ → ℤ → ℤ) (xs : List ℕ) (ss sums : List ℤ) (i : ℕ) (v : ℤ) → sums ≡ over f (take i xs) ss → v ≡ f (get_or xs i 0) (get_or sums i (pos 0)) → i < length xs
@@ -31,8 +31,5 @@ turn f xs ss sums i v p q h = rw (q, p, over_at_lem f xs ss i (pos 0)) (over_mor
 pub loop-i-preserved : goal.loop-i-preserved
 loop-i-preserved c =
     let l = c.loop-i in
-    let a = c.args in (
-      omega arith,
-      simp length-set l.invariant.1,
-      turn (step_by a.sample) a.readings.now a.sums.now l.sums l.i _ l.invariant.2 c.accumulate.ensures (omega arith),
-    )
+    let a = c.args in
+    turn (step_by a.sample) a.readings.now a.sums.now l.sums l.i _ l.invariant c.accumulate.ensures (omega arith)

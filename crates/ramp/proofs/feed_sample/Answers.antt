@@ -8,15 +8,14 @@ use Rattle.step.specs.Step.{step}
 use Rattle.step.proofs.Steps.{weight_in_range_lem}
 use Rattle.ramp.proofs.feed_sample.Goals as goal
 
-pub feed_part-requires-clause-weight_value : goal.feed_part-requires-clause-weight_value
-feed_part-requires-clause-weight_value c =
+pub feed_part-requires-clause-sample_value : goal.feed_part-requires-clause-sample_value
+feed_part-requires-clause-sample_value c =
     let s = c.args.settings in
-    rw (back w32 c.weight-weight.result c.weight-weight.type_inv ∙ c.weight-weight.ensures) (weight_in_range_lem s (in_range_parts s c.requires.settings_value) c.args.n)
-
-pub feed_part-requires-clause-threshold_value : goal.feed_part-requires-clause-threshold_value
-feed_part-requires-clause-threshold_value c =
-    let s = c.args.settings in
-    le-leb s.threshold max_threshold (in_range_parts s c.requires.settings_value).threshold
+    let r = in_range_parts s c.requires.settings_value in record {
+      number = c.requires.le_n;
+      weight = rw (back w32 c.weight-weight.result c.weight-weight.type_inv ∙ c.weight-weight.ensures) (weight_in_range_lem s r c.args.n);
+      threshold = le-leb s.threshold max_threshold r.threshold;
+    }
 
 pub returns : goal.returns
 unfolding step

@@ -14,7 +14,7 @@ quarter false binned m e = refl
 pub returns-then-board : goal.returns-then-board
 returns-then-board c =
     let b = c.args.board in
-    rw c.area.ensures (quarter (sides_taken b.width b.height b.binned) b.binned (area b) c.if-board.true)
+    rw c.area.ensures (quarter (sides_taken b.sides.width b.sides.height b.sides.binned) b.sides.binned (area b) c.if-board.true)
 
 pub returns-else-board : goal.returns-else-board
 returns-else-board c = rw (c.area-else-board.ensures, c.if-board.false)

@@ -1,33 +1,29 @@
-use mathlib.Core.Bool.{Bool, not}
-use mathlib.Core.List.{List}
-use mathlib.Core.Path.{refl, sym, ◌∙◌}
-use native.Mathlib.Omega.{arith}
 use Prim.Native.Nat.{ℕ}
-use borrow.Author.Tests.{le-leb, lt-leb}
+use mathlib.Core.Bool.{not}
+use mathlib.Core.Path.{◌≡◌, sym, ◌∙◌}
+use borrow.Author.Tests.{leb-true, leb-false, lt-ltb, le-ltb}
+use lib.Dec.{leb, ltb}
 use lib.ListN.{length, get_or}
-use Rattle.checks.specs.Search.{first_place}
-use Rattle.checks.proofs.Search.{found_first, found_more, found_every}
+use Rattle.std.proofs.Common.{rules, tests}
+use Rattle.std.proofs.lemmas.Iterator.{YieldsList-from_slice}
+use Rattle.std.proofs.lemmas.Iterator.Search.{position_from_yields_List}
+use Rattle.std.specs.List.{position}
+use Rattle.laws.proofs.Tests.{cases}
+use Rattle.checks.proofs.Search.{found_every, found_position, found_same}
 use Rattle.readings.specs.Readings.{max_reading, reading_in_range}
 use Rattle.readings.proofs.first_above.Goals as goal
 
-abbrev outside : List ℕ → ℕ → Bool
-outside xs i = not (reading_in_range (get_or xs i 0))
+above : (x : ℕ) → ltb max_reading x ≡ not (reading_in_range x)
+above x =
+    cases (leb x max_reading)
+    (λ t. rw (t, le-ltb max_reading x (leb-true x max_reading t)))
+    (λ t. rw (t, lt-ltb max_reading x (leb-false x max_reading t)))
 
 pub returns-then-all_in_range : goal.returns-then-all_in_range
 returns-then-all_in_range c = sym (found_every reading_in_range c.args.readings.now 0 (sym c.all_in_range.ensures ∙ c.if-all_in_range.true))
 
-pub loop-i-init : goal.loop-i-init
-unfolding first_place
-loop-i-init c = (omega arith, refl)
-
-pub returns-then-readings-i-gt-MAX_READING : goal.returns-then-readings-i-gt-MAX_READING
-returns-then-readings-i-gt-MAX_READING c =
-    let xs = c.args.readings.now in
-    let i = c.loop-i.i in
-    sym (found_first (outside xs) i (length xs) (omega arith) c.loop-i.invariant.1 (rw (lt-leb (get_or xs i 0) max_reading (omega arith))))
-
-pub loop-i-preserved : goal.loop-i-preserved
-loop-i-preserved c =
-    let xs = c.args.readings.now in
-    let i = c.loop-i.i in
-    (omega arith, found_more (outside xs) i c.loop-i.invariant.1 (rw (le-leb (get_or xs i 0) max_reading (omega arith))))
+pub returns-else-all_in_range : goal.returns-else-all_in_range
+returns-else-all_in_range c =
+    let l = c.args.readings.now in
+    let found : c.position.result ≡ position (ltb max_reading) l = position_from_yields_List (ltb max_reading) _ _ _ c.position.ensures.ran (YieldsList-from_slice l cc) (λ x b q k. search (rules, tests)) in
+    found ∙ found_position (ltb max_reading) l 0 ∙ found_same _ _ (length l) (λ i h. above (get_or l i 0))

@@ -1,28 +1,17 @@
-use mathlib.Core.Path.{refl, sym, ◌∙◌}
+use mathlib.Core.Path.{◌≡◌}
 use native.Mathlib.Omega.{arith}
-use lib.Bits.{bit_or}
-use lib.ListN.{get_or}
-use Rattle.laws.proofs.Quarters.{four_flag, four_done}
-use Rattle.readings.specs.Readings.{reading_in_range}
-use Rattle.readings.proofs.Bits.{together}
+use Rattle.std.proofs.Common.{rules}
+use Rattle.std.proofs.lemmas.Iterator.{YieldsList-from_slice, YieldsList-from_zip}
+use Rattle.std.specs.List.{fold, zip}
+use Rattle.readings.proofs.Bits.{bits_of_four, four_together}
+use Rattle.readings.proofs.Folded.{fold_from_yields_List}
 use Rattle.readings.proofs.four_in_range.Goals as goal
-
-pub loop-i-preserved : goal.loop-i-preserved
-loop-i-preserved c =
-    let t = c.args in
-    let i = c.loop-i.i in
-    let bits = c.loop-i.bits in
-    let x = get_or t.a.now i 0 in
-    let y = get_or t.b.now i 0 in
-    let u = get_or t.c.now i 0 in
-    let v = get_or t.d.now i 0 in (
-      omega arith,
-      c.loop-i.invariant.1
-          ∙ four_flag reading_in_range t.a.now t.b.now t.c.now t.d.now i 0 (omega arith) (omega arith) (omega arith) (omega arith) (reading_in_range bits) _ _ _ _ refl refl refl refl
-          ∙ rw (together bits (bit_or (bit_or x y) (bit_or u v)), together (bit_or x y) (bit_or u v), together x y, together u v),
-    )
 
 pub returns : goal.returns
 returns c =
     let t = c.args in
-    sym (c.loop-i.invariant.1 ∙ four_done reading_in_range t.a.now t.b.now t.c.now t.d.now c.loop-i.i (omega arith) (omega arith) (omega arith) (omega arith) (reading_in_range c.loop-i.bits))
+    let bits : c.fold.result ≡ fold bits_of_four 0 (zip (zip t.a.now t.b.now) (zip t.c.now t.d.now)) =
+    fold_from_yields_List bits_of_four c.fold.ensures.ran
+    (YieldsList-from_zip (YieldsList-from_zip (YieldsList-from_slice t.a.now cc) (YieldsList-from_slice t.b.now cc)) (YieldsList-from_zip (YieldsList-from_slice t.c.now cc) (YieldsList-from_slice t.d.now cc)))
+    (λ bits row more f' k. search rules) in
+    rw bits (four_together 0 t.a.now t.b.now t.c.now t.d.now (omega arith) (omega arith) (omega arith))

@@ -1,29 +1,27 @@
 -- `steps::read_out_of` meets its contract.
+use Rattle.std.proofs.lemmas.Result.{err_from_is_err_and}
 use Rattle.steps.specs.Steps.{read_out_leaves}
-use Rattle.begin.proofs.Beginning.{begun_sides}
+use Rattle.begin.proofs.Beginning.{begun_is, begun_refused, begun_sides}
 use Rattle.steps.proofs.Stepping.{read_out_is, read_out_left}
 use Rattle.steps.proofs.read_out_of.Goals as goal
 
-pub returns-in-Taken-clause-answer : goal.returns-in-Taken-clause-answer
-returns-in-Taken-clause-answer c =
-    let b = c.begin-begun.ensures in
-    let t = rw b at c.in-Taken.is in
-    rw (read_out_is, t, c.read_out-outcome.ensures.outcome, c.with_fed-b.ensures, c.wanted.ensures, b, begun_sides _ _ _ _ t)
+pub returns-clause-answer : goal.returns-clause-answer
+returns-clause-answer c =
+    let b = begun_is _ _ _ _ _ c.in_ok-board.ensures in
+    let sides = rw b.1 at (begun_sides _ _ _ _ b.0) in
+    rw (c.read_out.ensures.answer, read_out_is, b.0, b.1, c.wanted.ensures, sides)
 
-pub returns-in-Taken-clause-words : goal.returns-in-Taken-clause-words
-returns-in-Taken-clause-words c =
-    let b = c.begin-begun.ensures in
-    let t = rw b at c.in-Taken.is in
-    rw (read_out_left _ _ _ _ _ _ t, c.read_out-outcome.ensures.words, c.with_fed-b.ensures, c.wanted.ensures, b, begun_sides _ _ _ _ t)
+pub returns-clause-words : goal.returns-clause-words
+returns-clause-words c =
+    let b = begun_is _ _ _ _ _ c.in_ok-board.ensures in
+    let sides = rw b.1 at (begun_sides _ _ _ _ b.0) in
+    rw (read_out_left _ _ _ _ _ _ b.0, c.read_out.ensures.words, b.1, c.wanted.ensures, sides)
 
-pub returns-in-Refused-clause-answer : goal.returns-in-Refused-clause-answer
-returns-in-Refused-clause-answer c =
-    let b = c.begin-begun.ensures in
-    let t = rw b at c.in-Refused.is in
-    rw (read_out_is, t) (rw (b, t))
+pub returns-in_err-board-clause-answer : goal.returns-in_err-board-clause-answer
+returns-in_err-board-clause-answer c =
+    let p = err_from_is_err_and c.from_residual.result c.from_residual.ensures.1 in
+    rw (read_out_is, begun_refused _ _ _ _ _ c.in_err-board.ensures, p.1, p.2)
 
-pub returns-in-Refused-clause-words : goal.returns-in-Refused-clause-words
+pub returns-in_err-board-clause-words : goal.returns-in_err-board-clause-words
 unfolding read_out_leaves
-returns-in-Refused-clause-words c =
-    let t = rw c.begin-begun.ensures at c.in-Refused.is in
-    rw (read_out_is, t)
+returns-in_err-board-clause-words c = rw (read_out_is, begun_refused _ _ _ _ _ c.in_err-board.ensures)

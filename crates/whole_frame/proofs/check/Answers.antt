@@ -1,30 +1,31 @@
 -- `whole_frame::check` meets its contract.
-use mathlib.Core.Path.{◌≡◌, sym, ◌∙◌}
-use Rattle.checks.specs.declared.Answer.TheVariants.{Taken}
-use Rattle.checks.specs.Checks.{verdict}
-use Rattle.operations.specs.Feed.{feed_checks, feed_of}
+use Rattle.std.proofs.Common.{sym}
+use Rattle.std.proofs.lemmas.Result.{err_from_is_err_and}
+use Rattle.operations.specs.Feed.{feed_of}
 use Rattle.board.proofs.Soundness.{sound_parts}
 use Rattle.operations.proofs.FeedChecked.{feed_taken}
 use Rattle.whole_frame.proofs.Whole.{then_read_out}
 use Rattle.whole_frame.proofs.check.Goals as goal
 
-pub returns-in-Taken : goal.returns-in-Taken
+pub returns-in_err-check_feed : goal.returns-in_err-check_feed
 unfolding feed_of
-returns-in-Taken c =
-    let a = c.args in
-    let taken : verdict (feed_checks a.b a.readings.now a.sums.now) ≡ Taken = sym c.check_feed-feed.ensures ∙ c.in-Taken.is in
-    let sides = (sound_parts _ (feed_taken a.b a.readings.now a.sums.now taken).ramp.whole).sides in
-    rw (
-      then_read_out _ c.requires _ _ taken,
-      taken,
-      c.then.ensures,
-      c.when.ensures,
-      c.word_count.ensures,
-      c.when-wanted.ensures,
-      c.wanted.ensures,
-      sides,
-    )
+returns-in_err-check_feed c =
+    let p = err_from_is_err_and c.from_residual.result c.from_residual.ensures.1 in
+    rw (← c.in_err-check_feed.ensures, p.1, p.2)
 
-pub returns-in-Refused : goal.returns-in-Refused
+pub returns-in_err-refuse_when : goal.returns-in_err-refuse_when
 unfolding feed_of
-returns-in-Refused c = rw (← c.check_feed-feed.ensures, c.in-Refused.is)
+returns-in_err-refuse_when c =
+    let taken = sym c.in_ok-check_feed.ensures in
+    let sides = (sound_parts _ (feed_taken _ _ _ taken).ramp.whole).sides in
+    let wanted = rw (c.wanted.ensures, sides) at c.in_err-refuse_when.ensures in
+    let p = err_from_is_err_and c.from_residual-in_err-refuse_when.result c.from_residual-in_err-refuse_when.ensures.1 in
+    rw (then_read_out _ c.requires _ _ taken, taken, ← wanted, p.1, p.2)
+
+pub returns : goal.returns
+unfolding feed_of
+returns c =
+    let taken = sym c.in_ok-check_feed.ensures in
+    let sides = (sound_parts _ (feed_taken _ _ _ taken).ramp.whole).sides in
+    let wanted = rw (c.wanted.ensures, sides) at c.in_ok-refuse_when.ensures in
+    rw (then_read_out _ c.requires _ _ taken, taken, ← wanted, c.refuse_when-2.ensures, c.word_count.ensures, sides)

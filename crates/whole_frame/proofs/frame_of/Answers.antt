@@ -1,77 +1,66 @@
 -- `whole_frame::frame_of` meets its contract.
-use mathlib.Core.Path.{◌≡◌, refl, sym, ◌∙◌}
-use Rattle.checks.specs.declared.Answer.TheVariants.{Taken}
-use Rattle.checks.specs.Checks.{first, by_answer}
-use Rattle.checks.proofs.Laws.{both_taken}
-use Rattle.whole_frame.specs.Chain.{fed, read_out, frame_answer, frame_sums, frame_words}
-use Rattle.operations.specs.Feed.{fed_sums}
-use Rattle.begin.specs.Begun.{started}
-use Rattle.begin.proofs.Beginning.{started_unfed}
+use Rattle.std.proofs.Common.{sym}
+use Rattle.std.proofs.lemmas.Result.{err_from_is_err_and}
+use Rattle.whole_frame.specs.Chain.{frame_sums, frame_words}
+use Rattle.begin.proofs.Beginning.{begun_is, begun_refused, started_unfed}
 use Rattle.whole_frame.proofs.Whole.{frame_is, frame_feedable, frame_readable, sums_are, words_are}
 use Rattle.whole_frame.proofs.frame_of.Goals as goal
 
 pub check-requires : goal.check-requires
-check-requires c = rw c.begin-begun.ensures (started_unfed _ _ _ _)
+check-requires c = rw (← (begun_is _ _ _ _ _ c.in_ok-board.ensures).1) (started_unfed _ _ _ _)
 
 pub feed-requires : goal.feed-requires
-feed-requires c =
-    let a = c.args in
-    let b = c.begin-begun.result in
-    let passed : first (fed b.board a.readings.now a.sums.now).answer (read_out b.board a.readings.now a.sums.now a.words.now).answer ≡ Taken =
-    rw (← c.check.ensures) (both_taken b.answer _ (sym c.then-answer.ensures ∙ c.in-Taken.is)).1 in
-    frame_feedable _ _ _ _ passed
+feed-requires c = frame_feedable _ _ _ _ (sym c.in_ok-check.ensures)
 
 pub write_frame-requires : goal.write_frame-requires
-write_frame-requires c =
-    let a = c.args in
-    let b = c.begin-begun.result in
-    let passed : first (fed b.board a.readings.now a.sums.now).answer (read_out b.board a.readings.now a.sums.now a.words.now).answer ≡ Taken =
-    rw (← c.check.ensures) (both_taken b.answer _ (sym c.then-answer.ensures ∙ c.in-Taken.is)).1 in
-    rw c.feed.ensures (frame_readable _ _ _ _ passed)
+write_frame-requires c = rw c.feed.ensures (frame_readable _ _ _ _ (sym c.in_ok-check.ensures))
 
-pub returns-in-Taken-clause-answer : goal.returns-in-Taken-clause-answer
-returns-in-Taken-clause-answer c = rw (frame_is, c.then-answer.ensures, c.check.ensures, c.begin-begun.ensures)
+pub returns-clause-answer : goal.returns-clause-answer
+returns-clause-answer c =
+    let b = begun_is _ _ _ _ _ c.in_ok-board.ensures in
+    rw (frame_is, b.0, b.1, ← c.in_ok-check.ensures)
 
-pub returns-in-Taken-clause-sums : goal.returns-in-Taken-clause-sums
+pub returns-clause-sums : goal.returns-clause-sums
 unfolding frame_sums
-returns-in-Taken-clause-sums c =
-    let a = c.args in
-    let b = c.begin-begun.result in
-    let left = fed_sums (started a.width a.height a.binned a.«record».now).board a.readings.now a.sums.now in
-    let t : frame_answer a.width a.height a.binned a.«record».now a.readings.now a.sums.now a.words.now ≡ Taken =
-    sym (rw (frame_is, c.then-answer.ensures, c.check.ensures, c.begin-begun.ensures)) ∙ c.in-Taken.is in
-    let passed : first (fed b.board a.readings.now a.sums.now).answer (read_out b.board a.readings.now a.sums.now a.words.now).answer ≡ Taken =
-    rw (← c.check.ensures) (both_taken b.answer _ (sym c.then-answer.ensures ∙ c.in-Taken.is)).1 in
-    let new : c.feed.new.sums ≡ left = rw (c.feed.ensures, ← sums_are _ _ _ _ passed, c.begin-begun.ensures) in
-    let whole : by_answer Taken left a.sums.now ≡ left = refl in
-    cc (t, new, whole)
+returns-clause-sums c =
+    let b = begun_is _ _ _ _ _ c.in_ok-board.ensures in
+    let left = sums_are _ _ _ _ (sym c.in_ok-check.ensures) in
+    rw (frame_is, b.0, b.1, ← c.in_ok-check.ensures, left, c.feed.ensures)
 
-pub returns-in-Taken-clause-words : goal.returns-in-Taken-clause-words
+pub returns-clause-words : goal.returns-clause-words
 unfolding frame_words
-returns-in-Taken-clause-words c =
-    let a = c.args in
-    let b = c.begin-begun.result in
-    let e : c.then-answer.result ≡ frame_answer a.width a.height a.binned a.«record».now a.readings.now a.sums.now a.words.now =
-    rw (frame_is, c.then-answer.ensures, c.check.ensures, c.begin-begun.ensures) in
-    let passed : first (fed b.board a.readings.now a.sums.now).answer (read_out b.board a.readings.now a.sums.now a.words.now).answer ≡ Taken =
-    rw (← c.check.ensures) (both_taken b.answer _ (sym c.then-answer.ensures ∙ c.in-Taken.is)).1 in
-    rw (sym e ∙ c.in-Taken.is) (rw (c.write_frame.ensures, c.feed.ensures, ← words_are _ _ _ _ passed, c.begin-begun.ensures))
+returns-clause-words c =
+    let b = begun_is _ _ _ _ _ c.in_ok-board.ensures in
+    let words = words_are _ _ _ _ (sym c.in_ok-check.ensures) in
+    rw (frame_is, b.0, b.1, ← c.in_ok-check.ensures, words, c.write_frame.ensures, c.feed.ensures)
 
-pub returns-in-Refused-clause-answer : goal.returns-in-Refused-clause-answer
-returns-in-Refused-clause-answer c = rw (frame_is, c.then-answer.ensures, c.check.ensures, c.begin-begun.ensures)
+pub returns-in_err-board-clause-answer : goal.returns-in_err-board-clause-answer
+returns-in_err-board-clause-answer c =
+    let p = err_from_is_err_and c.from_residual.result c.from_residual.ensures.1 in
+    rw (frame_is, begun_refused _ _ _ _ _ c.in_err-board.ensures, p.1, p.2)
 
-pub returns-in-Refused-clause-sums : goal.returns-in-Refused-clause-sums
+pub returns-in_err-board-clause-sums : goal.returns-in_err-board-clause-sums
 unfolding frame_sums
-returns-in-Refused-clause-sums c =
-    let a = c.args in
-    let e : c.then-answer.result ≡ frame_answer a.width a.height a.binned a.«record».now a.readings.now a.sums.now a.words.now =
-    rw (frame_is, c.then-answer.ensures, c.check.ensures, c.begin-begun.ensures) in
-    rw (sym e ∙ c.in-Refused.is)
+returns-in_err-board-clause-sums c = rw (frame_is, begun_refused _ _ _ _ _ c.in_err-board.ensures)
 
-pub returns-in-Refused-clause-words : goal.returns-in-Refused-clause-words
+pub returns-in_err-board-clause-words : goal.returns-in_err-board-clause-words
 unfolding frame_words
-returns-in-Refused-clause-words c =
-    let a = c.args in
-    let e : c.then-answer.result ≡ frame_answer a.width a.height a.binned a.«record».now a.readings.now a.sums.now a.words.now =
-    rw (frame_is, c.then-answer.ensures, c.check.ensures, c.begin-begun.ensures) in
-    rw (sym e ∙ c.in-Refused.is)
+returns-in_err-board-clause-words c = rw (frame_is, begun_refused _ _ _ _ _ c.in_err-board.ensures)
+
+pub returns-in_err-check-clause-answer : goal.returns-in_err-check-clause-answer
+returns-in_err-check-clause-answer c =
+    let b = begun_is _ _ _ _ _ c.in_ok-board.ensures in
+    let p = err_from_is_err_and c.from_residual-in_err-check.result c.from_residual-in_err-check.ensures.1 in
+    rw (frame_is, b.0, b.1, ← c.in_err-check.ensures, p.1, p.2)
+
+pub returns-in_err-check-clause-sums : goal.returns-in_err-check-clause-sums
+unfolding frame_sums
+returns-in_err-check-clause-sums c =
+    let b = begun_is _ _ _ _ _ c.in_ok-board.ensures in
+    rw (frame_is, b.0, b.1, ← c.in_err-check.ensures)
+
+pub returns-in_err-check-clause-words : goal.returns-in_err-check-clause-words
+unfolding frame_words
+returns-in_err-check-clause-words c =
+    let b = begun_is _ _ _ _ _ c.in_ok-board.ensures in
+    rw (frame_is, b.0, b.1, ← c.in_err-check.ensures)

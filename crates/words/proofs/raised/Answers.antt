@@ -1,9 +1,8 @@
 -- `words::raised` meets its contract.
-use Rattle.std.proofs.Common.{◌∙◌, w32}
-use mir.Facts.{to_z-of_z}
-use Rattle.laws.proofs.Ints.{back}
+use Rattle.std.proofs.Common.{◌∙◌, w32, pos, arith}
+use Rattle.std.proofs.lemmas.Int.{wrapping_add_is}
 use Rattle.words.proofs.Raising.{raise}
 use Rattle.words.proofs.raised.Goals as goal
 
 pub returns : goal.returns
-returns c = back w32 c.wrapping_add.result c.wrapping_add.type_inv ∙ simp (to_z-of_z, c.ranges.entry) at c.wrapping_add.ensures ∙ raise c.args.entry c.requires
+returns c = wrapping_add_is w32 c.args.entry (pos 1073741824) c.ranges.entry (record { sfits = omega arith }) ∙ raise c.args.entry c.requires

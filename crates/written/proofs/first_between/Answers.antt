@@ -2,18 +2,19 @@
 use mathlib.Core.Bool.{not}
 use mathlib.Core.List.{List}
 use mathlib.Core.Path.{◌≡◌, ap, ◌∙◌}
-use Prim.Native.Nat.{ℕ, ◌+◌, ◌-◌, ◌≤◌}
+use Prim.Native.Nat.{ℕ, ◌+◌, ◌-◌, ◌^◌, ◌≤◌, ◌<◌}
 use native.Mathlib.Omega.{arith}
 use lib.IntN.{ℤ, pos}
 use lib.ListN.{length, get_or, take, drop}
+use Rattle.std.proofs.Common.{rules}
 use Rattle.laws.proofs.Parts.{part_length, part_at}
-use Rattle.checks.specs.declared.Found.{Found}
+use Rattle.std.specs.Prelude.{Option}
 use Rattle.checks.specs.Search.{first_place, shifted}
 use Rattle.checks.proofs.Search.{found_same, found_below}
 use Rattle.entries.specs.Possible.{possible_after}
 use Rattle.written.proofs.first_between.Goals as goal
 
-told : (l : List ℤ) (start end k : ℕ) (r : Found) → start ≤ end → end ≤ length l
+told : (l : List ℤ) (start end k : ℕ) (r : Option ℕ) → start ≤ end → end ≤ length l
     → r ≡ first_place (length (take (end - start) (drop start l))) (λ i. not (possible_after k (get_or (take (end - start) (drop start l)) i (pos 0))))
     → r ≡ first_place (end - start) (λ i. not (possible_after k (get_or l (start + i) (pos 0))))
 told l start end k r low high e =
@@ -22,13 +23,15 @@ told l start end k r low high e =
     ∙ found_same (λ i. not (possible_after k (get_or (take n (drop start l)) i (pos 0)))) (λ i. not (possible_after k (get_or l (start + i) (pos 0)))) n
     (λ i h. rw (part_at l start n i (pos 0) h))
 
-pub shifted-requires : goal.shifted-requires
-shifted-requires c p e =
+pub map-requires : goal.map-requires
+map-requires c p e =
     let a = c.args in
     let t = told a.sums.now a.start a.end a.k c.first_impossible.result (omega arith) (omega arith) c.first_impossible.ensures in
-    omega (arith, found_below _ _ p (rw t at e))
+    let here : a.start + p < 2 ^ 64 = omega (arith, found_below _ _ p (rw t at e)) in
+    search rules
 
 pub returns : goal.returns
 returns c =
     let a = c.args in
-    c.shifted.ensures ∙ ap (shifted a.start) (told a.sums.now a.start a.end a.k c.first_impossible.result (omega arith) (omega arith) c.first_impossible.ensures)
+    let moved : c.map.result ≡ shifted a.start c.first_impossible.result = search rules in
+    moved ∙ ap (shifted a.start) (told a.sums.now a.start a.end a.k c.first_impossible.result (omega arith) (omega arith) c.first_impossible.ensures)

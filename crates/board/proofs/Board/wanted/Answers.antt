@@ -9,10 +9,10 @@ use Rattle.board.proofs.Board.wanted.Goals as goal
 pub overflow_mul-result : goal.overflow_mul-result
 overflow_mul-result c =
     let b = c.args.self in
-    let m : b.in_force.samples * of_taken_sides b (area b) ≤ 65535 * 1048576 = mul-le-mul {n₂ = 65535} (omega arith) (area_few b.width b.height b.binned) in
+    let m : b.in_force.samples * of_taken_sides b (area b) ≤ 65535 * 1048576 = mul-le-mul {n₂ = 65535} (omega arith) (area_few b.sides.width b.sides.height b.sides.binned) in
     rw c.area.ensures (record { fits = omega arith })
 
 pub returns : goal.returns
 returns c =
     let b = c.args.self in
-    rw c.area.ensures (times_taken b.width b.height b.binned b.in_force.samples (area b))
+    rw c.area.ensures (times_taken b.sides.width b.sides.height b.sides.binned b.in_force.samples (area b))

@@ -1,18 +1,22 @@
 -- What the frame is handed are the parts of the input; so its answer and words are the job's.
-use Rattle.std.proofs.Common.{◌≡◌, cond, ℕ, ◌/◌, ◌≤◌, ◌+◌, ◌-◌, ◌*◌, length, List, ◌++◌, Bool, eqb, take, drop, min, replicate, ℤ, pos, sym, ap, ◌∙◌, arith}
+use Rattle.std.proofs.Common.{◌≡◌, cond, ℕ, ◌/◌, ◌≤◌, ◌+◌, ◌-◌, ◌*◌, length, List, ◌++◌, take, drop, min, replicate, ℤ, pos, sym, ap, ◌∙◌, arith, rules}
 use Rattle.std.proofs.Math.Seq.{length-take-le, take_at}
-use Rattle.checks.specs.declared.Answer.{Answer}
-use Rattle.checks.specs.declared.Answer.TheVariants.{Taken}
+use Rattle.std.specs.Prelude.{Ok, Err}
 use Rattle.checks.specs.Checks.{verdict}
+use Rattle.sides.specs.declared.Sides.{Sides}
+use Rattle.board.specs.declared.Board.{Board}
 use Rattle.encoding.specs.Frame.{word_count}
-use Rattle.begin.specs.Begun.{started}
+use Rattle.begin.specs.Begun.{started, begun}
+use Rattle.begin.proofs.Beginning as Beginning
 use Rattle.whole_frame.specs.Chain.{frame_answer, frame_words}
 use Rattle.pairs.specs.Pairs.{pairs}
-use Rattle.input.specs.Input.{width_of, height_of, binned_byte, record_length, max_pixels, max_readings}
+use Rattle.arrayvec.proofs.ArrayVecLemmas.{items-with_items}
+use Rattle.input.specs.Input.{width_of, height_of, is_binned, record_of, readings_at, max_pixels, max_readings}
 use Rattle.input.specs.Checks.{area, input_checks}
-use Rattle.job.specs.Job.{job_answer}
+use Rattle.job.specs.Job.{job_answer, result_of}
 use Rattle.job.proofs.Parts.{record_part, readings_part}
-use Rattle.job.proofs.Jobs.{Handed, handed, few_words, zeros, first_readings, answer_is, turned_down, carried}
+use Rattle.job.proofs.Jobs.{Handed, handed, few_words, board_words, zeros, first_readings, answer_is, turned_down, begun_refused, carried}
+use Rattle.job.proofs.run.carry_out.Goals.{After-frame_of}
 use Rattle.job.proofs.run.carry_out.Goals as goal
 
 -- the buffers
@@ -25,63 +29,81 @@ no_sums = replicate max_pixels (pos 0)
 abbrev no_words : List ℕ
 no_words = replicate max_pixels 0
 
-hands : (bytes : List ℕ) (w h b size from start fed count : ℕ) (decoded : List ℕ)
-    → w ≡ width_of bytes
-    → h ≡ height_of bytes
-    → b ≡ binned_byte bytes
-    → size ≡ record_length bytes
+-- the sides that an input names
+abbrev named : List ℕ → Sides
+named bytes = record { width = width_of bytes; height = height_of bytes; binned = is_binned bytes }
+
+hands : (bytes : List ℕ) (sides : Sides) (from start fed count : ℕ) (decoded words : List ℕ)
+    → sides ≡ named bytes
     → from ≡ min 6 (length bytes)
-    → start ≡ min (6 + size) (length bytes)
+    → start ≡ min (readings_at bytes) (length bytes)
     → fed ≡ min ((length bytes - start) / 2) max_readings
-    → count ≡ word_count (eqb b 1) (w * h)
+    → count ≡ word_count sides.binned (sides.width * sides.height)
     → area bytes ≤ max_pixels
     → length decoded ≡ length (take fed no_readings)
     → decoded ≡ take (length (take fed no_readings)) (pairs (take (start + 2 * fed - start) (drop start bytes)))
-    → Handed bytes w h (eqb b 1) (take (start - from) (drop from bytes)) (take fed (decoded ++ drop fed no_readings)) (take (w * h) no_sums) (take count no_words)
-hands bytes w h b size from start fed count decoded width height flag len from_is start_is fed_is count_is few long decoded_is =
+    → words ≡ take count no_words
+    → Handed bytes sides.width sides.height sides.binned (take (start - from) (drop from bytes)) (take fed (decoded ++ drop fed no_readings)) (take (sides.width * sides.height) no_sums) words
+hands bytes sides from start fed count decoded words sides_are from_is start_is fed_is count_is few long decoded_is words_is =
     let fed_zeros : length (take fed no_readings) ≡ fed = length-take-le fed no_readings (omega arith) in
-    let begins : start ≡ min (6 + record_length bytes) (length bytes) = start_is ∙ rw len in
-    let pixels : w * h ≤ max_pixels = rw (width, height) few in
+    let pixels : sides.width * sides.height ≤ max_pixels = rw sides_are few in
     let parts : decoded ≡ first_readings bytes =
     decoded_is
     ∙ ap (λ (n : ℕ). take n (pairs (take (start + 2 * fed - start) (drop start bytes)))) fed_zeros
-    ∙ readings_part bytes start fed begins fed_is in
+    ∙ readings_part bytes start fed start_is fed_is in
     record {
-      width = width;
-      height = height;
-      flag_is = ap (λ (n : ℕ). eqb n 1) flag;
-      part_is = record_part bytes from start from_is begins;
+      width = ap (λ (s : Sides). s.width) sides_are;
+      height = ap (λ (s : Sides). s.height) sides_are;
+      flag_is = ap (λ (s : Sides). s.binned) sides_are;
+      part_is = record_part bytes from start from_is start_is;
       readings_are = take_at decoded _ fed (long ∙ fed_zeros) ∙ parts;
-      sums_are = zeros (pos 0) (w * h) max_pixels pixels;
-      words_are = zeros 0 count max_pixels (rw count_is (few_words (eqb b 1) (w * h) pixels)) ∙ ap (λ (n : ℕ). replicate n 0) count_is;
+      sums_are = zeros (pos 0) (sides.width * sides.height) max_pixels pixels;
+      words_are = words_is ∙ zeros 0 count max_pixels (rw count_is (few_words sides.binned (sides.width * sides.height) pixels)) ∙ ap (λ (n : ℕ). replicate n 0) count_is;
     }
 
--- the frame's answer is the job's
-job_answer_is : {bytes : List ℕ} {w h : ℕ} {binned : Bool} {part readings : List ℕ} {sums : List ℤ} {words : List ℕ} (total : ℕ) (answer : Answer)
-    → Handed bytes w h binned part readings sums words
-    → verdict (input_checks bytes total) ≡ Taken
-    → answer ≡ frame_answer w h binned part readings sums words
-    → answer ≡ job_answer bytes total
-job_answer_is {bytes = bytes} total answer e t a = a ∙ handed frame_answer e ∙ sym (answer_is bytes total ∙ rw t)
+-- the sides and the record that Open, Update and Start are handed
+same_begun : (bytes : List ℕ) (sides : Sides) (from start : ℕ) → sides ≡ named bytes → from ≡ min 6 (length bytes) → start ≡ min (readings_at bytes) (length bytes)
+    → (begun sides.width sides.height sides.binned (take (start - from) (drop from bytes))).answer ≡ (begun (width_of bytes) (height_of bytes) (is_binned bytes) (record_of bytes)).answer
+same_begun bytes sides from start e f g = rw (e, record_part bytes from start f g)
 
-pub returns-in-Taken : goal.returns-in-Taken
-returns-in-Taken c total t =
+pub returns-in_err-board : goal.returns-in_err-board
+returns-in_err-board c total t =
     let bytes = c.args.input.now in
-    let e = hands bytes c.pair-width.result c.pair-height.result c.byte-binned.result c.byte.result c.least-from.result c.least-start.result c.least-fed.result c.word_count-count.result c.decode.new.readings
-    c.pair-width.ensures c.pair-height.ensures c.byte-binned.ensures c.byte.ensures c.least-from.ensures c.least-start.ensures c.least-fed.ensures c.word_count-count.ensures c.requires c.decode.auto.readings c.decode.ensures in
-    let few : c.word_count-count.result ≤ max_pixels = rw c.word_count-count.ensures (few_words (eqb c.byte-binned.result 1) _ (rw (c.pair-width.ensures, c.pair-height.ensures) c.requires)) in
-    carried bytes total _ _ _ _ _ _
-    (job_answer_is total c.frame_of-answer.result e t c.frame_of-answer.ensures.answer)
-    c.in-Taken.is
-    (c.frame_of-answer.ensures.words ∙ handed frame_words e)
-    (c.frame_of-answer.auto.words ∙ length-take-le c.word_count-count.result no_words few)
-    (c.columns.ensures ∙ handed (λ w h binned part readings sums words. cond binned (w / 2) w) e)
-    (c.truncation.ensures ∙ handed (λ w h binned part readings sums words. (started w h binned part).board.in_force.truncation) e)
+    let from_is : c.min-from.result ≡ min 6 (length bytes) = omega (arith, c.min-from.ensures) in
+    let start_is : c.min-start.result ≡ min (readings_at bytes) (length bytes) = omega (arith, c.min-start.ensures, c.from.ensures, c.byte.ensures) in
+    let same = same_begun bytes c.sides_of-sides.result c.min-from.result c.min-start.result c.sides_of-sides.ensures from_is start_is in
+    let refused : result_of bytes total ≡ Err c.in_err-board.field-0.0 = begun_refused bytes total _ t (sym same ∙ Beginning.begun_refused _ _ _ _ _ (sym c.in_err-board.was ∙ c.begin.ensures)) in
+    rw refused (search rules)
 
-pub returns-in-Refused : goal.returns-in-Refused
-returns-in-Refused c total t =
+-- what the frame was handed
+parts : (c : After-frame_of) → Handed c.args.input.now c.sides_of-sides.result.width c.sides_of-sides.result.height c.sides_of-sides.result.binned
+    (take (c.min-start.result - c.min-from.result) (drop c.min-from.result c.args.input.now))
+    (take c.min-fed.result (c.decode.new.readings ++ drop c.min-fed.result no_readings))
+    (take (c.sides_of-sides.result.width * c.sides_of-sides.result.height) no_sums)
+    c.as_mut_slice.result.now
+parts c =
     let bytes = c.args.input.now in
-    let e = hands bytes c.pair-width.result c.pair-height.result c.byte-binned.result c.byte.result c.least-from.result c.least-start.result c.least-fed.result c.word_count-count.result c.decode.new.readings
-    c.pair-width.ensures c.pair-height.ensures c.byte-binned.ensures c.byte.ensures c.least-from.ensures c.least-start.ensures c.least-fed.ensures c.word_count-count.ensures c.requires c.decode.auto.readings c.decode.ensures in
-    let is = c.in-Refused.is in
-    rw (c.refused.ensures, is) (turned_down bytes total _ (sym (job_answer_is total c.frame_of-answer.result e t c.frame_of-answer.ensures.answer) ∙ is))
+    let from_is : c.min-from.result ≡ min 6 (length bytes) = omega (arith, c.min-from.ensures) in
+    let start_is : c.min-start.result ≡ min (readings_at bytes) (length bytes) = omega (arith, c.min-start.ensures, c.from.ensures, c.byte.ensures) in
+    let fed_is : c.min-fed.result ≡ min ((length bytes - c.min-start.result) / 2) max_readings = omega (arith, c.min-fed.ensures) in
+    let words_are = c.as_mut_slice.ensures.value ∙ c.truncate.ensures.items ∙ ap (take c.word_count.result) c.from-words.ensures.0 in
+    hands bytes c.sides_of-sides.result c.min-from.result c.min-start.result c.min-fed.result c.word_count.result c.decode.new.readings _
+    c.sides_of-sides.ensures from_is start_is fed_is (c.word_count.ensures ∙ board_words _ _ _ _ _ (Beginning.begun_is _ _ _ _ _ (sym c.in_ok-board.was ∙ c.begin.ensures))) c.requires c.decode.auto.readings c.decode.ensures words_are
+
+-- what it answered is the job's answer
+answered : (c : After-frame_of) (total : ℕ) → verdict (input_checks c.args.input.now total) ≡ Ok tt → c.frame_of.result ≡ job_answer c.args.input.now total
+answered c total t = c.frame_of.ensures.answer ∙ handed frame_answer (parts c) ∙ sym (answer_is c.args.input.now total ∙ rw t)
+
+pub returns-in_err-frame_of : goal.returns-in_err-frame_of
+returns-in_err-frame_of c total t =
+    let refused : result_of c.args.input.now total ≡ Err c.in_err-frame_of.field-0.0 = turned_down c.args.input.now total _ (sym (answered (goal.at.returns-in_err-frame_of c).After-frame_of total t) ∙ c.in_err-frame_of.was) in
+    rw refused (search rules)
+
+pub returns : goal.returns
+returns c total t =
+    let board_is = (Beginning.begun_is _ _ _ _ _ (sym c.in_ok-board.was ∙ c.begin.ensures)).1 in
+    carried c.args.input.now total _
+    (sym (answered (goal.at.returns c).After-frame_of total t) ∙ c.in_ok-frame_of.was)
+    (items-with_items c.truncate.new.self c.frame_of.new.words (c.frame_of.auto.words ∙ ap length c.as_mut_slice.ensures.value) ∙ (c.frame_of.ensures.words ∙ handed frame_words (parts (goal.at.returns c).After-frame_of)))
+    (c.columns.ensures ∙ handed (λ w h binned part readings sums words. cond binned (w / 2) w) (parts (goal.at.returns c).After-frame_of))
+    (sym (ap (λ (b : Board). b.in_force.truncation) board_is) ∙ handed (λ w h binned part readings sums words. (started w h binned part).board.in_force.truncation) (parts (goal.at.returns c).After-frame_of))

@@ -1,2 +1,0 @@
--- Lines of the first words.
-pub mod Front

@@ -1,2 +1,0 @@
--- The law of a sum modulo 2^32.
-pub mod Wraps

@@ -1,2 +1,0 @@
--- A sum modulo 2^32.
-pub mod Wrapped

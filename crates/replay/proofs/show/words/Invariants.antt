@@ -1,6 +1,0 @@
--- The words left.
-use Rattle.std.proofs.Common.{◌-◌, length}
-use Rattle.replay.proofs.show.words.Given as goal
-
-abbrev pub decreases-loop-i : goal.decreases-loop-i
-decreases-loop-i l = length l.words - l.i

@@ -1,0 +1,2 @@
+-- The first place of a byte, or the end.
+mod First
