@@ -1,4 +1,4 @@
-// What a frame and each single step of it begin with: a board is opened, updated and started.
+//! What a frame and each single step of it begin with: a board is opened, updated and started.
 #![tactic(auto)]
 
 ghost use Rattle.std.specs.Prelude.{◌≡◌};
@@ -10,7 +10,7 @@ use checks::Refusal;
 use control::{start, update};
 use sides::Sides;
 
-// The first refusal of the three, or the board that they leave.
+/// The first refusal of the three, or the board that they leave.
 #[tactic(auto, unfolding(checks::specs::Checks::verdict))]
 pub fn begin(sides: Sides, record: &[u8]) -> Result<Board, Refusal>
     ensures { let b = begun sides.width sides.height sides.binned «record».now in result ≡ or_refused b.answer b.board }

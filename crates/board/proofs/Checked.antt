@@ -1,15 +1,26 @@
 -- What the checks that Feed and Read out begin with have shown, and back.
+--     in_order                            the checks one after the other
+--     RampTaken, ramp_taken, ramp_passes  where all are taken
 use Prim.Native.Nat.{ℕ}
-use mathlib.Core.Bool.{true}
+use mathlib.Core.Bool.{true, not}
 use mathlib.Core.List.{List, [], ◌∷◌, ◌++◌}
 use mathlib.Core.Path.{◌≡◌, sym, ◌∙◌}
 use borrow.Author.Tests.{eqb-true, eq-eqb, not-false}
+use lib.Dec.{eqb}
 use Rattle.std.specs.Prelude.{Ok}
-use Rattle.checks.specs.Checks.{Answer, verdict}
-use Rattle.checks.proofs.Laws.{verdict_append, both_taken, when_taken}
+use Rattle.laws.proofs.Tests.{cases}
+use Rattle.checks.specs.declared.Reason.TheVariants.{NoRamp, SumsLength}
+use Rattle.checks.specs.Checks.{Answer, when, first, verdict}
+use Rattle.checks.proofs.Laws.{first_taken, verdict_append, both_taken, when_taken}
 use Rattle.board.specs.declared.Board.{Board}
-use Rattle.board.specs.Board.{area, sound}
+use Rattle.board.specs.Board.{area, of_taken_sides, sound, unsound}
 use Rattle.board.specs.RampChecks.{ramp_checks}
+use Rattle.board.proofs.Soundness.{sound_parts}
+
+-- of a board that isn't sound, the ramp and the number of sums don't matter
+pub in_order : (b : Board) (n : ℕ) → first (unsound b) (first (when (not b.running) NoRamp) (when (not (eqb n (of_taken_sides b (area b)))) SumsLength)) ≡ verdict (ramp_checks b n)
+unfolding verdict
+in_order b n = cases (sound b) (λ s. rw (s, (sound_parts b s).sides, first_taken)) (λ s. rw s)
 
 pub record RampTaken (b : Board) (sumsLength : ℕ) : Type 0 where
   pub whole : sound b ≡ true

@@ -1,4 +1,4 @@
-// Open.
+//! Open.
 ghost use Rattle.std.specs.Prelude.{◌≡◌};
 ghost use Rattle.checks.specs.Checks.{or_refused};
 ghost use Rattle.board.specs.Board as Def;
@@ -24,7 +24,7 @@ impl Board {
         }
     }
 
-    // Open: a board with the default settings, or a refusal.
+    /// Open: a board with the default settings, or a refusal.
     #[tactic(auto, unfolding(crate::specs::Open::open_of, checks::specs::Checks::verdict))]
     pub fn open(sides: Sides) -> Result<Board, Refusal>
         ensures { let opening = open_of sides.width sides.height sides.binned in result ≡ or_refused opening.answer opening.board }

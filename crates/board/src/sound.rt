@@ -1,4 +1,4 @@
-// Which boards are sound, and the checks that operations begin with.
+//! Which boards are sound, and the checks that operations begin with.
 ghost use Rattle.std.specs.Prelude.{◌≡◌};
 ghost use Rattle.checks.specs.Checks.{verdict};
 ghost use Rattle.board.specs.Board as Def;
@@ -9,19 +9,18 @@ use crate::Board;
 use checks::{Answer, Reason, refuse_when};
 
 impl Board {
-    // How many pixels the board has; 0 for sides that Open doesn't take.
+    /// How many pixels the board has, as `Sides::area` tells: 0 for sides that Open doesn't take.
     pub fn area(self) -> usize
         ensures { result ≡ of_taken_sides self (Def.area self) }
     {
         self.sides.area()
     }
 
-    // How many readings the ramp wants in all; 0 for sides that Open doesn't take.
+    /// How many readings the ramp wants in all; 0 for sides that Open doesn't take, too.
     pub fn wanted(self) -> usize
         ensures { result ≡ of_taken_sides self (Def.wanted self) }
     {
-        // `as` only widens here: `From` says no more.
-        self.in_force.samples as usize * self.area()
+        usize::from(self.in_force.samples) * self.area()
     }
 
     #[tactic(auto, unfolding(crate::specs::Board::sound))]
@@ -35,14 +34,14 @@ impl Board {
             && (self.running || self.fed == 0)
     }
 
-    // The check that every operation begins with.
+    /// The check that every operation begins with.
     pub fn check_sound(self) -> Answer
         ensures { result ≡ unsound self }
     {
         refuse_when(!self.sound(), Reason::UnsoundBoard)
     }
 
-    // What Feed and Read out begin with: 99, 10 and 11.
+    /// What Feed and Read out begin with: 99, 10 and 11.
     #[tactic(auto, unfolding(checks::specs::Checks::verdict))]
     pub fn check_ramp(self, sums: usize) -> Answer
         ensures { result ≡ verdict (ramp_checks self sums) }

@@ -10,5 +10,6 @@ known = record {
   known_places = (refl, refl, refl, refl);
   known_orders = (refl, refl);
   known_searches = (refl, refl);
+  known_reasons = (refl, refl, refl, refl, refl);
   known_numbers = (refl, refl, refl, refl);
 }

@@ -17,9 +17,7 @@ use lib.Dec.{eqb}
 use Rattle.laws.specs.Lists.{each}
 use Rattle.checks.specs.declared.Reason.{Reason}
 use Rattle.checks.specs.declared.Refusal.{Refusal}
-use Rattle.std.specs.Prelude.{Option}
-use Rattle.std.specs.Prelude.{Some, None}
-use Rattle.std.specs.Prelude.{Ok, Err}
+use Rattle.std.specs.Prelude.{Option, Some, None, Ok, Err}
 use Rattle.checks.specs.Checks.{Answer, refusal, when, found, first, verdict}
 use Rattle.checks.specs.Told.{number}
 

@@ -26,7 +26,8 @@ use Rattle.laws.proofs.Tests.{cases}
 use Rattle.std.proofs.lemmas.List.Sums.{fails_before_first, passes_at_first}
 use Rattle.std.specs.List.{position, position_or_len}
 use Rattle.std.specs.Prelude.{Option, Some, None}
-use Rattle.checks.specs.Search.{or_else, first_place, shifted}
+use Rattle.std.specs.Option.{option_or}
+use Rattle.checks.specs.Search.{first_place, shifted}
 
 module _ (test : ℕ → Bool) where
   -- a place that is found stays found
@@ -50,7 +51,7 @@ module _ (test : ℕ → Bool) where
 pub found_every : {A : Type 0} (test : A → Bool) (l : List A) (d : A) → every test l ≡ true → first_place (length l) (λ i. not (test (get_or l i d))) ≡ None
 found_every test l d e = nowhere (λ i. not (test (get_or l i d))) (length l) (λ i h. rw (every_at test l e d i h))
 
-none_both : (a b : Option ℕ) → or_else a b ≡ None → (a ≡ None) × (b ≡ None)
+none_both : (a b : Option ℕ) → option_or a b ≡ None → (a ≡ None) × (b ≡ None)
 none_both (Some p) b e = let z : ◌≡◌ {A = ℕ} 0 1 = cc in absurd (omega arith)
 none_both None b e = (refl, e)
 
@@ -77,7 +78,7 @@ unfolding first_place
 found_below test zero p e = let z : ◌≡◌ {A = ℕ} 0 1 = cc in absurd (omega arith)
 found_below test (suc n) p e = by (first_place n test) (test n) e (found_below test n p)
   where
-    by : (x : Option ℕ) (t : Bool) → or_else x (cond t (Some n) None) ≡ Some p → (x ≡ Some p → p < n) → p < suc n
+    by : (x : Option ℕ) (t : Bool) → option_or x (cond t (Some n) None) ≡ Some p → (x ≡ Some p → p < n) → p < suc n
     by (Some q) t z h = omega (arith, h z)
     by None true z h = let w : n ≡ p = cc in omega arith
     by None false z h = let w : ◌≡◌ {A = ℕ} 0 1 = cc in absurd (omega arith)
@@ -87,7 +88,7 @@ unfolding first_place
 found_same t u zero h = refl
 found_same t u (suc n) h = rw (found_same t u n (λ i l. h i (omega arith)), h n (omega arith))
 
-shifted_else : (a : ℕ) (x y : Option ℕ) → shifted a (or_else x y) ≡ or_else (shifted a x) (shifted a y)
+shifted_else : (a : ℕ) (x y : Option ℕ) → shifted a (option_or x y) ≡ option_or (shifted a x) (shifted a y)
 shifted_else a (Some p) y = refl
 shifted_else a None y = refl
 
@@ -95,15 +96,15 @@ shifted_test : (a n : ℕ) (t : Bool) → shifted a (cond t (Some n) None) ≡ c
 shifted_test a n true = refl
 shifted_test a n false = refl
 
-else_assoc : (x y z : Option ℕ) → or_else (or_else x y) z ≡ or_else x (or_else y z)
+else_assoc : (x y z : Option ℕ) → option_or (option_or x y) z ≡ option_or x (option_or y z)
 else_assoc (Some p) y z = refl
 else_assoc None y z = refl
 
-pub else_none : (x : Option ℕ) → or_else x None ≡ x
+pub else_none : (x : Option ℕ) → option_or x None ≡ x
 else_none (Some p) = refl
 else_none None = refl
 
-pub found_append : (test : ℕ → Bool) (a b : ℕ) → first_place (a + b) test ≡ or_else (first_place a test) (shifted a (first_place b (λ i. test (a + i))))
+pub found_append : (test : ℕ → Bool) (a b : ℕ) → first_place (a + b) test ≡ option_or (first_place a test) (shifted a (first_place b (λ i. test (a + i))))
 unfolding first_place
 found_append test a zero = rw (add-zero a, else_none (first_place a test))
 found_append test a (suc b) =

@@ -1,7 +1,7 @@
-// The commands of a script, each with its numbers. The bytes of an update, the readings of a feed and the words stay in the list.
+//! The commands of a script, each with its numbers.
 #![tactic(auto)]
 
-ghost use Rattle.std.specs.Prelude.{◌≡◌, ◌≤◌, IfOk};
+ghost use Rattle.std.specs.Prelude.{◌≤◌, IfOk, OkIff, pos, neg_ℤ, ◌≤ℤ◌};
 ghost use Rattle.items.specs.Items.{natural_of, entry_of};
 ghost use Rattle.commands.specs.Ranges.{InRange};
 
@@ -10,6 +10,10 @@ use places::Place;
 use sides::Sides;
 use std::num::TryFromIntError;
 
+/// `Update`, `Feed` and `Words` count their items, which stay in the list: a command is copied, and one with room for 4,096 items would be copied whole. No slices of
+/// the list: a `fill` has one reading for all, so a count stands there in any case, beside `same`. `Nearest` and `Count` have a width and a height as the script names
+/// them: a `Frame` needs the words too. That a command is in range, `InRange`, stands in the contracts of what makes one and of what plays it: a type for it would hold the
+/// command and be taken apart at once.
 #[derive(Clone, Copy, Debug, PartialEq, Eq)]
 pub enum Command {
     Open(Sides),
@@ -53,7 +57,7 @@ pub enum Command {
     },
 }
 
-// A line that says no command.
+/// A line that says no command.
 #[derive(Clone, Copy, Debug, PartialEq, Eq)]
 pub struct Malformed;
 
@@ -68,7 +72,7 @@ const LARGEST: usize = 9999999999;
 
 // A number with no sign, up to the highest.
 fn up_to(n: i64, highest: usize) -> Result<usize, Malformed>
-    ensures number { IfOk result (λ m. m ≡ natural_of n) }
+    ensures number { OkIff result ((pos 0 ≤ℤ n) × (n ≤ℤ pos highest)) (natural_of n) }
     ensures bound { IfOk result (λ m. m ≤ highest) }
 {
     let m = usize::try_from(n)?;
@@ -77,7 +81,7 @@ fn up_to(n: i64, highest: usize) -> Result<usize, Malformed>
 
 // A number of 32 bits with a sign.
 fn entry(n: i64) -> Result<i32, Malformed>
-    ensures { IfOk result (λ e. e ≡ entry_of n) }
+    ensures { OkIff result ((neg_ℤ (pos 2147483648) ≤ℤ n) × (n ≤ℤ pos 2147483647)) (entry_of n) }
 {
     Ok(i32::try_from(n)?)
 }
@@ -105,7 +109,7 @@ fn counted<T: TryFrom<i64, Error = TryFromIntError> + Drop>(
     }
 }
 
-// The command of a word that takes the numbers of a list.
+/// The command of a word that takes the numbers of a list.
 pub fn named(word: &[u8], list: &[i64]) -> Result<Command, Malformed>
     ensures { IfOk result InRange }
 {

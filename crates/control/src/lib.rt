@@ -1,4 +1,4 @@
-// The operations that are lent no buffer of a ramp: Update, Start, Drop, Covered.
+//! The operations that are lent no buffer of a ramp: Update, Start, Drop, Covered.
 #![tactic(auto)]
 
 ghost use Rattle.std.specs.Prelude.{◌≡◌};
@@ -9,7 +9,7 @@ ghost use Rattle.operations.specs.Covered.{coverage_of};
 use board::Board;
 use checks::{Answer, Reason, Refusal, refuse_when};
 
-// Update: the record's fields go into the waiting settings.
+/// Update: the record's fields go into the waiting settings.
 #[tactic(auto, unfolding(operations::specs::Update::update_of, update::specs::Update::update_of, checks::specs::Checks::verdict))]
 pub fn update(board: &mut Board, bytes: &[u8]) -> Answer
     ensures answer { result ≡ (update_of board.old bytes.now).answer }
@@ -20,7 +20,7 @@ pub fn update(board: &mut Board, bytes: &[u8]) -> Answer
     Ok(())
 }
 
-// Start: the waiting settings are in force, and a ramp begins.
+/// Start: the waiting settings are in force, and a ramp begins.
 #[tactic(auto, unfolding(operations::specs::Ramp::start_of, checks::specs::Checks::verdict))]
 pub fn start(board: &mut Board) -> Answer
     ensures answer { result ≡ (start_of board.old).answer }
@@ -34,7 +34,7 @@ pub fn start(board: &mut Board) -> Answer
     Ok(())
 }
 
-// Drop: the ramp ends with no frame.
+/// Drop: the ramp ends with no frame.
 #[tactic(auto, unfolding(operations::specs::Ramp::drop_of, checks::specs::Checks::verdict))]
 pub fn drop(board: &mut Board) -> Answer
     ensures answer { result ≡ (drop_of board.old).answer }
@@ -46,7 +46,7 @@ pub fn drop(board: &mut Board) -> Answer
     Ok(())
 }
 
-// Covered: whether the settings in force are covered.
+/// Covered: whether the settings in force are covered.
 #[tactic(auto, unfolding(operations::specs::Covered::coverage_of, checks::specs::Checks::verdict))]
 pub fn covered(board: Board) -> Result<bool, Refusal>
     ensures { result ≡ coverage_of board }

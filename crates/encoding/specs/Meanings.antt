@@ -1,6 +1,5 @@
 -- What the word of entries reads as. `proofs/Meanings.antt` shows it.
-use Rattle.std.specs.Prelude.{ℕ, ◌*◌, ◌≤◌, ◌<◌, true, false, List, ◌≡◌, Result, Ok, Float, ℤ, pos, length, ◌≤ℤ◌, ◌<ℤ◌}
-use Rattle.std.proofs.Math.Option.{none, some}
+use Rattle.std.specs.Prelude.{ℕ, ◌*◌, ◌≤◌, ◌<◌, true, false, List, ◌≡◌, Result, Ok, Float, ℤ, pos, length, ◌≤ℤ◌, ◌<ℤ◌, Some, None}
 use Rattle.std.specs.Float.Ieee.Exact.{HasValue}
 use Rattle.laws.specs.Lists.{total}
 use Rattle.checks.specs.declared.Refusal.{Refusal}
@@ -26,13 +25,13 @@ pub record Between (pixels : ℕ) (sum : ℤ) (reads : Result WordRead Refusal) 
 pub record WordLaws : Type 0 where
   -- the word of one entry, or of a square's four. No mark, no negative sum, and a total below 32,752 × 2^r for each pixel: ordinary, with the total between the limits
   pub ordinary : (r : ℕ) (entries : List ℤ) → truncation_in_range r ≡ true → 0 < length entries
-      → smallest_mark entries ≡ none → is_negative entries ≡ false → total entries <ℤ pos (length entries * ceiling r)
+      → smallest_mark entries ≡ None → is_negative entries ≡ false → total entries <ℤ pos (length entries * ceiling r)
       → Between (length entries) (total entries) (read_word r (word_of r entries))
   -- the smallest mark n from 1 to 9: saturated at n
   pub saturated : (r : ℕ) (entries : List ℤ) (n : ℕ) → truncation_in_range r ≡ true
-      → smallest_mark entries ≡ some n → 1 ≤ n → n ≤ max_samples
+      → smallest_mark entries ≡ Some n → 1 ≤ n → n ≤ max_samples
       → read_word r (word_of r entries) ≡ Ok (Saturated n)
   -- no mark, and a negative sum: negative
   pub negative : (r : ℕ) (entries : List ℤ) → truncation_in_range r ≡ true
-      → smallest_mark entries ≡ none → is_negative entries ≡ true
+      → smallest_mark entries ≡ None → is_negative entries ≡ true
       → read_word r (word_of r entries) ≡ Ok Negative

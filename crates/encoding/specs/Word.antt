@@ -1,19 +1,18 @@
 -- From the entries of a word's pixels, one or a square's four, to the word.
-use Rattle.std.specs.Prelude.{ℕ, ◌+◌, ◌*◌, ◌/◌, ◌%◌, ◌^◌, min, Bool, cond, List, [], ◌∷◌, ℤ, pos, nat_abs, length}
-use Rattle.std.proofs.Math.Option.{Option, none, some}
+use Rattle.std.specs.Prelude.{ℕ, ◌+◌, ◌*◌, ◌/◌, ◌%◌, ◌^◌, min, Bool, cond, List, [], ◌∷◌, ℤ, pos, nat_abs, length, Option, Some, None}
 use Rattle.std.specs.Int.Signed.{lt_z}
 use Rattle.laws.specs.Lists.{total}
 use Rattle.entries.specs.Mark.{sample_of}
 
 -- the smaller of two samples, where there are two
 abbrev pub smaller : Option ℕ → Option ℕ → Option ℕ
-smaller none b = b
-smaller (some a) none = some a
-smaller (some a) (some b) = some (min a b)
+smaller None b = b
+smaller (Some a) None = Some a
+smaller (Some a) (Some b) = Some (min a b)
 
 -- the smallest sample that an entry is marked with; none where no entry is marked
 unfoldable pub smallest_mark : List ℤ → Option ℕ
-smallest_mark [] = none
+smallest_mark [] = None
 smallest_mark (e ∷ es) = smaller (sample_of e) (smallest_mark es)
 
 -- the sign rule: the sum, or the total of a square's four, is below 0
@@ -30,8 +29,8 @@ cut_of r sums = cut_by (length sums * 2 ^ r) (total sums)
 
 -- a mark of sample n gives 32,752 + n; otherwise a negative sum gives 32,767; otherwise it is cut
 abbrev pub word_by : ℕ → Option ℕ → List ℤ → ℕ
-word_by r (some n) sums = 32752 + n
-word_by r none sums = cond (is_negative sums) 32767 (cut_of r sums)
+word_by r (Some n) sums = 32752 + n
+word_by r None sums = cond (is_negative sums) 32767 (cut_of r sums)
 
 -- the word of one entry, or of a square's four
 abbrev pub word_of : ℕ → List ℤ → ℕ

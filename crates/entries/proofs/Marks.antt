@@ -4,7 +4,7 @@
 --     by_mark                    an entry is a mark, or isn't marked
 use Prim.Native.Nat.{ℕ, ◌+◌, ◌-◌, ◌≤◌}
 use mathlib.Core.Bool.{true, false}
-use mathlib.Core.Option.{none, some}
+use Rattle.std.specs.Prelude.{Some, None}
 use mathlib.Core.Path.{◌≡◌, refl, ap}
 use native.Mathlib.Omega.{arith}
 use borrow.Author.Tests.{le-leb, leb-true}
@@ -16,11 +16,11 @@ use Rattle.entries.specs.Mark.{mark, marked, sample_of}
 pub is_marked : (n : ℕ) → 1 ≤ n → marked (mark n) ≡ true
 is_marked n h = le-leb 1073741825 (1073741824 + n) (omega arith)
 
-pub sample_is : (n : ℕ) → 1 ≤ n → sample_of (mark n) ≡ some n
+pub sample_is : (n : ℕ) → 1 ≤ n → sample_of (mark n) ≡ Some n
 unfolding sample_of
-sample_is n h = rw (is_marked n h) (ap some (omega arith))
+sample_is n h = rw (is_marked n h) (ap Some (omega arith))
 
-pub sample_none : (e : ℤ) → marked e ≡ false → sample_of e ≡ none
+pub sample_none : (e : ℤ) → marked e ≡ false → sample_of e ≡ None
 unfolding sample_of
 sample_none (pos e) h = rw h
 sample_none (negsuc e) h = refl

@@ -1,6 +1,5 @@
 -- A *mark* stands in the place of a sum once a pixel's reading was above the threshold.
-use Rattle.std.specs.Prelude.{ℕ, ◌+◌, ◌-◌, Bool, cond, ◌&&◌, ℤ, pos, negsuc}
-use Rattle.std.proofs.Math.Option.{Option, none, some}
+use Rattle.std.specs.Prelude.{ℕ, ◌+◌, ◌-◌, Bool, cond, ◌&&◌, ℤ, pos, negsuc, Option, Some, None}
 use Rattle.std.specs.Int.Signed.{le_z}
 
 -- what a mark has above its sample
@@ -21,5 +20,5 @@ mark_of a b e = le_z (mark a) e && le_z e (mark b)
 
 -- the sample of a marked entry; none for any other
 unfoldable pub sample_of : ℤ → Option ℕ
-sample_of (pos e) = cond (marked (pos e)) (some (e - mark_base)) none
-sample_of (negsuc e) = none
+sample_of (pos e) = cond (marked (pos e)) (Some (e - mark_base)) None
+sample_of (negsuc e) = None

@@ -1,4 +1,4 @@
-// An entry of the sums: a sum, or a mark in its place.
+//! An entry of the sums: a sum, or a mark in its place.
 #![tactic(auto)]
 
 ghost use Rattle.std.specs.Prelude.{◌≡◌, cond, ◌≤◌, pos, ◌-ℤ◌, ◌≤ℤ◌};
@@ -6,13 +6,13 @@ ghost use Rattle.settings.specs.Settings.{max_samples};
 ghost use Rattle.entries.specs.Mark.{marked};
 ghost use Rattle.entries.specs.Possible.{possible_after};
 
-// The mark of sample n is this and n more.
+/// The mark of sample n is this and n more.
 pub const MARK: i32 = 1073741824;
 
 // The largest weight times the largest reading.
 const MAX_PRODUCT: i32 = 245745;
 
-// A mark moved down by a gap; a sum stays.
+/// A mark moved down by a gap; a sum stays.
 pub fn lowered(entry: i32, gap: i32) -> i32
     requires { (pos 0 ≤ℤ gap) × (gap ≤ℤ pos 1073741825) }
     ensures { result ≡ cond (marked entry) (entry -ℤ gap) entry }
@@ -20,12 +20,14 @@ pub fn lowered(entry: i32, gap: i32) -> i32
     if entry > MARK { entry - gap } else { entry }
 }
 
-// Whether an entry is possible after k samples. With the mark of sample k moved down to the highest sum, one range holds sums and marks; with the
-// lowest sum moved to the lowest number, one test tells the range. k is N, or a count of samples, as each caller has it at hand: its bound stands in each contract.
+/// Whether an entry is possible after k samples. With the mark of sample k moved down to the highest sum, one range holds sums and marks; with the
+/// lowest sum moved to the lowest number, one test tells the range. k is N, or a count of samples: its bound stands in each contract, since each
+/// caller has the number at hand, and a type for it would be made at the call and taken apart in it.
 pub fn is_possible(entry: i32, k: usize) -> bool
     requires { k ≤ max_samples }
     ensures { result ≡ possible_after k entry }
 {
+    // k is at most nine; the library has no `From` of a `usize` for an `i32`.
     let samples = k as i32;
     let span = samples * MAX_PRODUCT;
     let moved = lowered(entry, MARK + samples - (128 + span));

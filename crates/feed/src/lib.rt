@@ -1,4 +1,4 @@
-// Feed.
+//! Feed.
 #![tactic(auto)]
 
 ghost use Rattle.std.specs.Prelude.{◌≡◌, true, length};
@@ -31,7 +31,7 @@ pub fn check_feed(board: Board, readings: &[u16], sums: &[i32]) -> Answer
     check_readings(board, readings, sums)
 }
 
-// Feed: every check first, then the readings go into the sums.
+/// Feed: every check first, then the readings go into the sums.
 #[tactic(auto, unfolding(operations::specs::Feed::feed_of, operations::specs::Feed::fed_sums))]
 pub fn feed(board: &mut Board, readings: &[u16], sums: &mut [i32]) -> Answer
     ensures answer { result ≡ (feed_of board.old readings.now sums.old).answer }

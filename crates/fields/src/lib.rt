@@ -1,4 +1,4 @@
-// The fields of a record: each is checked, and written into the settings.
+//! The fields of a record: each is checked, and written into the settings.
 #![tactic(auto)]
 
 ghost use Rattle.std.specs.Prelude.{◌≡◌};
@@ -23,21 +23,21 @@ fn check(field: Field, number: u16) -> Answer
     }
 }
 
-// The settings with the field of a bit written.
+// The settings with the field of a bit written. The bit and not the field: a weight's place is below nine as `of_bit` gives it.
 fn with_field(before: Settings, bit: usize, number: u16) -> Settings
     ensures { result ≡ with_field (field_of bit) number before }
 {
-    let mut s = before;
+    let mut settings = before;
     match Field::of_bit(bit) {
-        Field::Weight(i) => s.weights[i] = weight_of(number),
-        Field::Threshold => s.threshold = number,
-        Field::Truncation => s.truncation = number,
-        Field::Samples => s.samples = number,
+        Field::Weight(i) => settings.weights[i] = weight_of(number),
+        Field::Threshold => settings.threshold = number,
+        Field::Truncation => settings.truncation = number,
+        Field::Samples => settings.samples = number,
     }
-    s
+    settings
 }
 
-// The settings with each field that stands in the map written, or the refusal of the first bad one.
+/// The settings with each field that stands in the map written, or the refusal of the first bad one.
 pub fn decode(before: Settings, bytes: &[u8]) -> Result<Settings, Refusal>
     ensures { result ≡ or_refused (verdict (field_checks bytes.now)) (resulting bytes.now before) }
 {

@@ -4,7 +4,8 @@
 --     one_row         one row more
 --     after_box       none after its last row
 --     many_count      the flags of some words, counted word by word
---     row_more, rows_done     a turn of the loop, and its end
+--     row_more, row_few       a turn of the loop, and that the count stays small
+--     rows_done               its last turn
 use Prim.Native.Nat.{ℕ, zero, suc, ◌+◌, ◌-◌, ◌*◌, ◌/◌, ◌≤◌, ◌<◌}
 use mathlib.Core.Bool.{Bool, false, cond, ◌&&◌}
 use mathlib.Core.List.{List}
@@ -99,19 +100,24 @@ module _ (words : List ℕ) (width : ℕ) (first last : Place) (b : Boxed words 
         (λ i h. rw (le-leb a (a + i) (omega arith), le-leb (a + i) last.column (omega (arith, b.columns)), part_at words (row * width + a) n i 0 h, and_right)
         (ap (flag_at words) (omega arith))))
 
-  pub row_more : (row n k from to : ℕ) → first.row ≤ row → row ≤ last.row → n ≡ how_many (row * width) within
-      → from ≡ row * width + first.column → to ≡ row * width + last.column + 1 → k ≡ count_by is_flag (take (to - from) (drop from words))
-      → n + k ≡ how_many ((row + 1) * width) within
-  row_more row n k from to low high e f g h =
+  -- the flags of the part of the words that the box takes of a row
+  abbrev pub Here : ℕ → ℕ → Type 0
+  Here row k = k ≡ count_by is_flag (take (row * width + last.column + 1 - (row * width + first.column)) (drop (row * width + first.column) words))
+
+  pub row_more : (row n k : ℕ) → first.row ≤ row → row ≤ last.row → n ≡ how_many (row * width) within → Here row k → n + k ≡ how_many ((row + 1) * width) within
+  row_more row n k low high before here =
       let m = last.column + 1 - first.column in
       let part = take m (drop (row * width + first.column) words) in
-      let wide : to - from ≡ m = omega (arith, b.columns) in
+      let wide : row * width + last.column + 1 - (row * width + first.column) ≡ m = omega (arith, b.columns) in
       let len : length part ≡ m = part_length words (row * width + first.column) m (omega (arith, b.columns, b.across, row_room row high)) in
       let counted = rw len at (many_count part) in
-      rw (add-mul row 1 width, one-mul width, one_row row low high, e, h, wide, f, counted)
+      rw (add-mul row 1 width, one-mul width, one_row row low high, before, here, wide, counted)
 
-  pub row_few : (row n : ℕ) → row ≤ last.row → n ≡ how_many ((row + 1) * width) within → n ≤ 1048576
-  row_few row n high e = omega (arith, many_few within ((row + 1) * width), row_room row high, add-mul row 1 width, one-mul width, b.few)
+  pub row_few : (row n k : ℕ) → first.row ≤ row → row ≤ last.row → n ≡ how_many (row * width) within → Here row k → n + k < 18446744073709551616
+  row_few row n k low high before here =
+      omega (arith, row_more row n k low high before here, many_few within ((row + 1) * width), row_room row high, add-mul row 1 width, one-mul width, b.few)
 
-  pub rows_done : (row n : ℕ) → row ≡ last.row + 1 → n ≡ how_many (row * width) within → n ≡ how_many (length words) within
-  rows_done row n q e = e ∙ rw (q, add-mul last.row 1 width, one-mul width) (sym after_box)
+  pub rows_done : (row n k : ℕ) → last.row ≤ row → first.row ≤ row → row ≤ last.row → n ≡ how_many (row * width) within → Here row k → n + k ≡ how_many (length words) within
+  rows_done row n k end low high before here =
+      let q : row ≡ last.row = omega arith in
+      row_more row n k low high before here ∙ rw (q, add-mul last.row 1 width, one-mul width) (sym after_box)

@@ -1,4 +1,4 @@
-// The count of flags in a box.
+//! The count of flags in a box.
 #![tactic(auto)]
 
 ghost use Rattle.std.specs.Prelude.{◌≡◌, ◌≤◌, length, count_by};
@@ -9,7 +9,7 @@ ghost use Rattle.flag_boxes.specs.Requires.{Boxed};
 use meaning::is_flag;
 use places::{Frame, Place};
 
-// How many words are flags. 16 bits hold that of a row, and more words are counted at once.
+// How many words are flags. 16 bits hold that of a row, and the compiler makes vector code of it.
 fn count(words: &[u16]) -> u16
     requires { length words.now ≤ 1024 }
     ensures { result ≡ count_by is_flag words.now }
@@ -17,13 +17,14 @@ fn count(words: &[u16]) -> u16
     words.iter().map(|w| u16::from(is_flag(*w))).sum()
 }
 
-// How many flags lie in a box, row by row.
+/// How many flags lie in a box, row by row.
+#[tactic(auto, using(crate::proofs::BoxRows::before_box, crate::proofs::BoxRows::rows_done, crate::proofs::BoxRows::row_few, crate::proofs::BoxRows::row_more))]
 pub fn count_in_box(frame: Frame, first: Place, last: Place) -> usize
     requires { Boxed frame.words.now frame.width first last }
     ensures { result ≡ how_many (length frame.entry.words.now) (flag_within frame.entry.words.now frame.entry.width first last) }
 {
     let mut n = 0;
-    for row in first.row..last.row + 1 {
+    for row in first.row..=last.row {
         let start = row * frame.width;
         let part = &frame.words[start + first.column..=start + last.column];
         n += usize::from(count(part));

@@ -1,10 +1,11 @@
 -- Keys.
 --     key_order, order_key      of two keys the lower is that of the nearer, or of the first of two
 --     lesser, widened           the least key of two sets of words, and of fewer words
+--     above_some, above_none    that of the row so far above, and where there is none
 --     more_rows                 the rows nearer than so many, and one more on either side
 --     row_column                the row and the column of a word
 --     key_found, key_none       the least key of all words is that of the nearest flag, or there is none
-use Prim.Native.Nat.{ℕ, ◌+◌, ◌*◌, ◌/◌, ◌%◌, ◌≤◌, ◌<◌, min}
+use Prim.Native.Nat.{ℕ, ◌+◌, ◌-◌, ◌*◌, ◌/◌, ◌%◌, ◌≤◌, ◌<◌, min}
 use mathlib.Core.Bool.{true}
 use mathlib.Core.List.{List}
 use mathlib.Core.Logic.{◌⊎◌, inl, inr}
@@ -13,7 +14,7 @@ use native.Mathlib.Omega.{arith}
 use borrow.Author.Tests.{ltb-true, ltb-false, leb-true, leb-false}
 use lib.Dec.{ltb, leb}
 use lib.ListN.{length}
-use Rattle.std.specs.Prelude.{Option, Some, None}
+use Rattle.std.specs.Prelude.{Option, Some, None, SomeIff}
 use Rattle.laws.proofs.Tests.{cases}
 use Rattle.places.specs.declared.Place.{Place}
 use Rattle.places.specs.Places.{flag_at, apart}
@@ -60,6 +61,14 @@ module _ (words : List ℕ) (width : ℕ) (place : Place) where
       right : y < x → (j : ℕ) → A j ⊎ B j → flag_at words j ≡ true → y ≤ key_of width place j
       right h j (inl a) t = let m : x ≤ key_of width place j = k.least j a t in omega arith
       right h j (inr b) t = l.least j b t
+
+  -- of the row so far above the place, and where there is none
+  pub above_some : (away row : ℕ) (key : Option ℕ) → SomeIff (Some row) (away ≤ place.row) (place.row - away)
+      → Least words width place (λ j. j / width ≡ row) key → Least words width place (λ j. j / width + away ≡ place.row) key
+  above_some away row key s k = widened (λ j t b. omega (arith, s.0, s.1)) k
+
+  pub above_none : (away : ℕ) → ¬ (away ≤ place.row) → Least words width place (λ j. j / width + away ≡ place.row) None
+  above_none away far = record { held = tt; least = λ j b t. absurd (far (omega arith)) }
 
   -- the least key of the rows nearer than `away`
   abbrev pub LeastWithin : ℕ → Option ℕ → Type 0

@@ -1,4 +1,4 @@
-// The search for the nearest flag, row by row.
+//! The search for the nearest flag, row by row.
 #![tactic(auto)]
 
 ghost use Rattle.std.specs.Prelude.{◌≡◌, ◌+◌, ◌*◌, ◌/◌, ◌≤◌, ◌<◌, length};
@@ -41,12 +41,15 @@ struct Query<'a> {
 }
 
 impl Query<'_> {
-    // The least key of the flags of a row.
+    // The least key of the flags of a row; no key where the frame has no such row.
+    #[tactic(auto, using(crate::proofs::RowKeys::row_none))]
     fn row_key(self, row: usize) -> Option<usize>
-        requires { row < self.frame.height }
         ensures { Least self.entry.frame.words.now self.entry.frame.width self.entry.place (λ j. j / self.entry.frame.width ≡ row) result }
     {
         let Query { frame, place, .. } = self;
+        if row >= frame.height {
+            return None;
+        }
         let start = row * frame.width;
         let end = start + frame.width;
         let column = nearest_column(&frame.words[start..end], place.column)?;
@@ -55,26 +58,6 @@ impl Query<'_> {
             place.column.abs_diff(column),
             start + column,
         ))
-    }
-
-    // The same of the row so far above the place, and of the row so far below it; no key where the frame has no such row. One function for both would
-    // take the direction as a switch.
-    fn key_above(self, away: usize) -> Option<usize>
-        ensures { Least self.entry.frame.words.now self.entry.frame.width self.entry.place (λ j. j / self.entry.frame.width + away ≡ self.entry.place.row) result }
-    {
-        self.row_key(self.place.row.checked_sub(away)?)
-    }
-
-    fn key_below(self, away: usize) -> Option<usize>
-        requires { away < self.frame.height }
-        ensures { Least self.entry.frame.words.now self.entry.frame.width self.entry.place (λ j. j / self.entry.frame.width ≡ self.entry.place.row + away) result }
-    {
-        let row = self.place.row + away;
-        if row < self.frame.height {
-            self.row_key(row)
-        } else {
-            None
-        }
     }
 
     // The least key of all flags, by rows further and further away. It stops where no later row can have a lower one.
@@ -88,15 +71,19 @@ impl Query<'_> {
             {
                 break;
             }
-            let above = self.key_above(away);
-            let below = self.key_below(away);
+            // No `and_then`: a closure that holds the frame would need the clause of `row_key` once more.
+            let above = match self.place.row.checked_sub(away) {
+                Some(row) => self.row_key(row),
+                None => None,
+            };
+            let below = self.row_key(self.place.row + away);
             best = lower(best, lower(above, below));
         }
         best
     }
 }
 
-// The place of the nearest flag, if there is one.
+/// The place of the nearest flag, if there is one.
 pub fn search(frame: Frame, place: Place) -> Option<Place>
     requires { Searched frame.words.now frame.width frame.height place }
     ensures { result ≡ placed frame.entry.width (nearest_at (length frame.entry.words.now) (flag_at frame.entry.words.now) (distance_from frame.entry.width place)) }

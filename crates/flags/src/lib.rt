@@ -1,10 +1,11 @@
-// Looking for the flags of a frame of words: the nearest to a place, and how many lie in a box.
+//! Looking for the flags of a frame of words: the nearest to a place, and how many lie in a box.
 #![tactic(auto)]
 
-ghost use Rattle.std.specs.Prelude.{◌≡◌};
-ghost use Rattle.checks.specs.Checks.{verdict};
+ghost use Rattle.std.specs.Prelude.{◌≡◌, not};
+ghost use Rattle.checks.specs.Checks.{verdict, when};
+ghost use Rattle.checks.specs.declared.Reason.TheVariants.{OutsideFrame};
 ghost use Rattle.places.specs.Places.{is_inside};
-ghost use Rattle.places.specs.Checks.{frame_checks, nearest_checks, is_box, count_checks};
+ghost use Rattle.places.specs.Checks.{frame_checks, is_box};
 ghost use Rattle.places.specs.Finding.{nearest_of};
 ghost use Rattle.places.specs.Counting.{count_of};
 
@@ -30,10 +31,10 @@ fn is_box(frame: Frame, first: Place, last: Place) -> bool
         && first.column <= last.column
 }
 
-// The checks of the frame itself.
+// The checks of a frame, and then whether what is asked about lies inside it, which its caller has asked: an answer, and no switch.
 #[tactic(auto, unfolding(checks::specs::Checks::verdict))]
-fn check_frame(frame: Frame) -> Answer
-    ensures { result ≡ verdict (frame_checks frame.entry.words.now frame.entry.width frame.entry.height (Ok tt)) }
+fn check(frame: Frame, inside: bool) -> Answer
+    ensures { result ≡ verdict (frame_checks frame.entry.words.now frame.entry.width frame.entry.height (when (not inside) OutsideFrame)) }
 {
     let sides = Sides {
         width: frame.width,
@@ -41,39 +42,24 @@ fn check_frame(frame: Frame) -> Answer
         binned: false,
     };
     refuse_when(!sides.are_taken(), Reason::OutsideFrame)?;
-    refuse_when(frame.words.len() != sides.area(), Reason::WordsLength)
+    refuse_when(frame.words.len() != sides.area(), Reason::WordsLength)?;
+    refuse_when(!inside, Reason::OutsideFrame)
 }
 
-#[tactic(auto, using(crate::proofs::Checked::frame_last))]
-fn check_nearest(frame: Frame, place: Place) -> Answer
-    ensures { result ≡ verdict (nearest_checks frame.entry.words.now frame.entry.width frame.entry.height place) }
-{
-    check_frame(frame)?;
-    refuse_when(!is_inside(frame, place), Reason::OutsideFrame)
-}
-
-#[tactic(auto, using(crate::proofs::Checked::frame_last))]
-fn check_count(frame: Frame, first: Place, last: Place) -> Answer
-    ensures { result ≡ verdict (count_checks frame.entry.words.now frame.entry.width frame.entry.height first last) }
-{
-    check_frame(frame)?;
-    refuse_when(!is_box(frame, first, last), Reason::OutsideFrame)
-}
-
-// The nearest flagged place by squared distance, and the first in row order among equals.
+/// The nearest flagged place by squared distance, and the first in row order among equals.
 #[tactic(auto, using(crate::proofs::Checked::searched), unfolding(places::specs::Finding::nearest_of))]
 pub fn nearest_flag(frame: Frame, place: Place) -> Result<Option<Place>, Refusal>
     ensures { result ≡ nearest_of frame.entry.words.now frame.entry.width frame.entry.height place }
 {
-    check_nearest(frame, place)?;
+    check(frame, is_inside(frame, place))?;
     Ok(search(frame, place))
 }
 
-// How many flags lie in the box from the first corner to the last, its edges counted in.
+/// How many flags lie in the box from the first corner to the last, its edges counted in.
 #[tactic(auto, using(crate::proofs::Checked::boxed), unfolding(places::specs::Counting::count_of))]
 pub fn count_flags(frame: Frame, first: Place, last: Place) -> Result<usize, Refusal>
     ensures { result ≡ count_of frame.entry.words.now frame.entry.width frame.entry.height first last }
 {
-    check_count(frame, first, last)?;
+    check(frame, is_box(frame, first, last))?;
     Ok(count_in_box(frame, first, last))
 }

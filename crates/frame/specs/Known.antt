@@ -1,8 +1,7 @@
 -- Known answers about flags, as C gets them. `proofs/Known.antt` shows them.
 use Rattle.std.specs.Prelude.{ℕ, ◌≡◌, Option, Some, None, Result, Ok, Err}
-use Rattle.checks.specs.declared.Reason.TheVariants.{BadSides, ShortRecord, UnknownField, RecordLength, WeightRange, ThresholdRange, TruncationRange, SamplesRange, RampRunning, NoRamp, SumsLength, TooManyReadings, ReadingRange, EntryNotPossible, ReadingsWanted, WordsLength, BadInput, TooManyPixels, OutsideFrame, UnsoundBoard}
+use Rattle.checks.specs.declared.Reason.TheVariants.{WordsLength, OutsideFrame}
 use Rattle.checks.specs.declared.Refusal.{Refusal}
-use Rattle.checks.specs.Told.{refusal_number}
 use Rattle.checks.specs.Checks.{refusal}
 use Rattle.places.specs.declared.Place.{Place}
 use Rattle.places.specs.Places.{place_at}
@@ -32,27 +31,6 @@ pub record AllKnown : Type 0 where
       × (number_told outside ≡ 19)
       × (number_told five ≡ 0)
       × (number_told other_length ≡ 16)
-  -- the number of each reason, as document 01 names it
-  pub known_reasons : (refusal_number (Err (refusal BadSides)) ≡ 1)
-      × (refusal_number (Err (refusal ShortRecord)) ≡ 2)
-      × (refusal_number (Err (refusal UnknownField)) ≡ 3)
-      × (refusal_number (Err (refusal RecordLength)) ≡ 4)
-      × (refusal_number (Err (refusal WeightRange)) ≡ 5)
-      × (refusal_number (Err (refusal ThresholdRange)) ≡ 6)
-      × (refusal_number (Err (refusal TruncationRange)) ≡ 7)
-      × (refusal_number (Err (refusal SamplesRange)) ≡ 8)
-      × (refusal_number (Err (refusal RampRunning)) ≡ 9)
-      × (refusal_number (Err (refusal NoRamp)) ≡ 10)
-      × (refusal_number (Err (refusal SumsLength)) ≡ 11)
-      × (refusal_number (Err (refusal TooManyReadings)) ≡ 12)
-      × (refusal_number (Err (refusal ReadingRange)) ≡ 13)
-      × (refusal_number (Err (refusal EntryNotPossible)) ≡ 14)
-      × (refusal_number (Err (refusal ReadingsWanted)) ≡ 15)
-      × (refusal_number (Err (refusal WordsLength)) ≡ 16)
-      × (refusal_number (Err (refusal BadInput)) ≡ 17)
-      × (refusal_number (Err (refusal TooManyPixels)) ≡ 18)
-      × (refusal_number (Err (refusal OutsideFrame)) ≡ 19)
-      × (refusal_number (Err (refusal UnsoundBoard)) ≡ 99)
   -- `found` is 1 for a flag and 0 for none, and as it was, here 7, after a refusal
   pub known_found : (found_after at_flag 7 ≡ 1) × (found_after no_flag 7 ≡ 0) × (found_after outside 7 ≡ 7)
   -- the row, the column and the count; or what they were, here 7

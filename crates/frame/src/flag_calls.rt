@@ -1,5 +1,5 @@
-// The nearest flag and the flags in a box, for C and Rust: a refusal's number, 0 if there is none. What a refusal doesn't tell is left as it was.
-// C knows no `Frame`, no `Place` and no `Option`: numbers come and go one by one.
+//! The nearest flag and the flags in a box, for C and Rust: a refusal's number, 0 if there is none. What a refusal doesn't tell is left as it was.
+//! C knows no `Frame`, no `Place` and no `Option`: numbers come and go one by one.
 ghost use Rattle.std.specs.Prelude.{◌≡◌};
 ghost use Rattle.places.specs.Places.{place_at};
 ghost use Rattle.places.specs.Finding.{nearest_of};
@@ -9,7 +9,7 @@ ghost use Rattle.frame.specs.FlagAnswers.{number_told, found_after, row_after, c
 use flags::{count_flags, nearest_flag};
 use places::{Frame, Place};
 
-// The nearest flag: `found` is 1, and its row and column are told; or `found` is 0.
+/// The nearest flag: `found` is 1, and its row and column are told; or `found` is 0.
 #[unsafe(no_mangle)]
 pub extern "C" fn ramp_nearest_flag(
     words: &[u16],
@@ -46,7 +46,7 @@ pub extern "C" fn ramp_nearest_flag(
     }
 }
 
-// The flags in the box from the first corner to the last, its edges counted in.
+/// The flags in the box from the first corner to the last, its edges counted in.
 #[unsafe(no_mangle)]
 pub extern "C" fn ramp_count_flags(
     words: &[u16],

@@ -1,5 +1,5 @@
-// What C and Rust call. A whole frame in one call, and Feed and Read out alone: a refusal's number, 0 if there is none, and its place.
-// C knows no `Sides` and no `Result`: numbers come and go one by one.
+//! What C and Rust call. A whole frame in one call, and Feed and Read out alone: a refusal's number, 0 if there is none, and its place.
+//! C knows no `Sides` and no `Result`: numbers come and go one by one.
 #![tactic(auto)]
 
 ghost use Rattle.std.specs.Prelude.{◌≡◌};
@@ -14,7 +14,7 @@ use whole_frame::frame_of;
 
 pub mod flag_calls;
 
-// A frame: the number of the first refusal of Open, Update, Start, Feed and Read out, 0 if it was taken, and its place.
+/// A frame: the number of the first refusal of Open, Update, Start, Feed and Read out, 0 if it was taken, and its place.
 #[unsafe(no_mangle)]
 pub extern "C" fn ramp_frame(
     width: usize,
@@ -39,7 +39,7 @@ pub extern "C" fn ramp_frame(
     told(frame_of(sides, record, readings, sums, words), place)
 }
 
-// Feed, with `fed` readings of the ramp already fed: the number of the first refusal of Open, Update, Start and Feed, 0 if there is none, and its place.
+/// Feed, with `fed` readings of the ramp already fed: the number of the first refusal of Open, Update, Start and Feed, 0 if there is none, and its place.
 #[unsafe(no_mangle)]
 pub extern "C" fn ramp_feed(
     width: usize,
@@ -63,7 +63,7 @@ pub extern "C" fn ramp_feed(
     told(feed_of(sides, record, fed, readings, sums), place)
 }
 
-// Read out, with all readings of the ramp fed: the number of the first refusal of Open, Update, Start and Read out, 0 if there is none, and its place.
+/// Read out, with all readings of the ramp fed: the number of the first refusal of Open, Update, Start and Read out, 0 if there is none, and its place.
 #[unsafe(no_mangle)]
 pub extern "C" fn ramp_read_out(
     width: usize,

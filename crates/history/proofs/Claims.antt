@@ -4,7 +4,7 @@
 use Prim.Native.Nat.{ℕ, ◌+◌, ◌*◌, ◌≤◌, ◌<◌}
 use mathlib.Core.Bool.{Bool, true, false}
 use mathlib.Core.List.{List, [], ◌∷◌, map}
-use mathlib.Core.Option.{Option, none, some}
+use Rattle.std.specs.Prelude.{Option, Some, None, Result, Ok}
 use mathlib.Core.Path.{◌≡◌, refl, sym, ◌∙◌}
 use borrow.Author.Tests.{le-leb}
 use native.Mathlib.Nat.{suc-mul}
@@ -18,7 +18,6 @@ use Rattle.laws.proofs.Ints.{up, dn, sum, signed}
 use Rattle.laws.proofs.Firsts.{Nowhere, Says, first_says, first_found, first_not, nowhere_any}
 use Rattle.laws.proofs.Parts.{All}
 use Rattle.laws.proofs.Tests.{clash, cases, true_and}
-use Rattle.std.specs.Prelude.{Result, Ok}
 use Rattle.checks.specs.declared.Refusal.{Refusal}
 use Rattle.settings.specs.declared.Settings.{Settings}
 use Rattle.settings.specs.Settings.{truncation_in_range}
@@ -76,8 +75,8 @@ module _ (ℓ : Ledger) (range : InRange ℓ.in_force) where
   word_is ps = rw (marks ps) (by (first_of N (over_at ℓ ps)) (first_says (over_at ℓ ps) N))
     where
       by : (o : Option ℕ) → Says (over_at ℓ ps) N o → word_by r o (entries ps) ≡ word_by r o (exact_sums ℓ ps)
-      by (some n) f = refl
-      by none f = rw (sums ps (nowhere_any over N ps f))
+      by (Some n) f = refl
+      by None f = rw (sums ps (nowhere_any over N ps f))
 
   -- ---- the three ways that a word reads
 
@@ -131,14 +130,14 @@ module _ (ℓ : Ledger) (range : InRange ℓ.in_force) where
       in_r = true_and (le-leb 1 r range.truncation_low) (le-leb r 3 range.truncation_high)
 
       by : (o : Option ℕ) → Says (over_at ℓ ps) N o → WordClaim ℓ ps (read_word r (word_of r (entries ps)))
-      by (some n) f =
+      by (Some n) f =
           at_mark ps _ n f
           (laws.saturated r (entries ps) n in_r (marks ps ∙ first_found (over_at ℓ ps) N n f) f.low (omega (arith, f.high, range.samples_high)))
-      by none f =
+      by None f =
           let es = exact_sums ℓ ps in
           let under = nowhere_any over N ps f in
           let e = sums ps under in
-          let m : smallest_mark es ≡ none = rw e at (marks ps ∙ first_not (over_at ℓ ps) N f) in
+          let m : smallest_mark es ≡ None = rw e at (marks ps ∙ first_not (over_at ℓ ps) N f) in
           let k : length es ≡ length ps = length-map ps _ in
           let never : NeverOver ℓ ps = λ n g. clash (sym g.holds ∙ f n g.low g.high) in
           rw e

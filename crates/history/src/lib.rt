@@ -1,2 +1,2 @@
-// No code: the statements over lists of calls, and their proofs.
+//! No code: the statements over lists of calls, and their proofs.
 #![tactic(auto)]

@@ -1,4 +1,6 @@
-// Check 14: the first entry that isn't possible after k samples. The bounds of k stand in each contract: see `entries::is_possible`.
+//! Check 14: the first entry that isn't possible after k samples. The bounds of k stand in each contract, as in `entries::is_possible`. The passes are
+//! no twins of those in `readings`: bits there say exactly whether each reading is in range, here only that entries are near. One function for both would take what is or-ed,
+//! its law and its bound as parameters, and is no plainer.
 #![tactic(auto)]
 
 ghost use Rattle.std.specs.Prelude.{◌≡◌, true, not, ◌&&◌, ◌+◌, ◌≤◌, pos, ◌-ℤ◌, length, get_or, ◌≤ℤ◌};
@@ -30,7 +32,7 @@ fn moved(entry: i32, gap: i32, near: i32) -> i32
     lowered(entry, gap) + near
 }
 
-// Whether all four parts, of one length, are near: all their bits together are. One part after the other takes a fifth more time.
+// Whether all four parts, of one length, are near: all their bits together are. One part after the other takes a fifth more time, and no ratio of the bench may get worse.
 fn four_near(a: &[i32], b: &[i32], c: &[i32], d: &[i32], gap: i32, near: i32) -> bool
     requires fitting { Fitting gap near }
     requires b_len { (length b.now ≡ length a.now) × (length c.now ≡ length a.now) × (length d.now ≡ length a.now) }
@@ -58,6 +60,7 @@ fn gap_above(k: usize, near: i32) -> i32
     requires { (k ≤ max_samples) × (pos 0 ≤ℤ near) × (near ≤ℤ pos 1048576) }
     ensures { result ≡ mark (k + 1) -ℤ near }
 {
+    // As in `is_possible`, no `From` of a `usize`.
     MARK + (k as i32 + 1) - near
 }
 
@@ -78,7 +81,7 @@ fn all_near(sums: &[i32], k: usize) -> bool
     four_near(first, second, third, fourth, gap, near) & each_possible(rest, k)
 }
 
-// The place of the first entry that isn't possible after k samples.
+/// The place of the first entry that isn't possible after k samples.
 pub fn first_impossible(sums: &[i32], k: usize) -> Option<usize>
     requires { (1 ≤ k) × (k ≤ max_samples) }
     ensures { result ≡ first_place (length sums.now) (λ p. not (possible_after k (get_or sums.now p (pos 0)))) }

@@ -1,2 +1,2 @@
--- The law of a buffer that is filled.
-mod Filled
+-- An array whose items are the answers of calls.
+mod Calls

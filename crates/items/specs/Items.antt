@@ -23,10 +23,6 @@ byte_item list i = up_to 255 (get_or list (i + 1) (pos 0))
 abbrev pub short_item : Bool → List ℤ → ℕ → ℕ
 short_item same list i = up_to 65535 (get_or list (cond same 1 (i + 1)) (pos 0))
 
--- 4,096 items of a list, or its first item each time, each made from its number by a rule
-abbrev pub made_items : {A : Type 0} → (ℤ → A) → Bool → List ℤ → List A
-made_items make same list = each (λ i. make (get_or list (cond same 1 (i + 1)) (pos 0))) 4096
-
 -- 4,096 of them
 abbrev pub byte_items : List ℤ → List ℕ
 byte_items list = each (byte_item list) 4096

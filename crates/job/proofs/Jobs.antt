@@ -2,8 +2,9 @@
 --     Handed, handed     what the chain of the frame is handed
 --     few_words, board_words, zeros   of the buffers
 --     answer_is, words_are         what comes of a job, from the first of its readings
+--     job_answer_is                the frame's answer is the job's
 --     overlong_is, overlong_refused     and where its record is too long
---     turned_down, begun_refused, carried         the result of a refused job, and of a taken one
+--     turned_down, input_refused, begun_refused, carried     the result of a refused job, and of a taken one
 use Prim.Native.Nat.{ℕ, zero, suc, ◌*◌, ◌≤◌, ◌<◌}
 use mathlib.Core.Bool.{Bool, true, false}
 use mathlib.Core.List.{List, [], ◌∷◌, ◌++◌}
@@ -111,6 +112,14 @@ module _ (bytes : List ℕ) (total : ℕ) where
       by (Ok tt) e = rw (enough_words (width_of bytes) (height_of bytes) (is_binned bytes) (record_of bytes) (zero_sums bytes) (zero_words bytes) max_readings (many e) (readings_of bytes))
       by (Err r) e = refl
 
+  -- of a job whose input is taken, what the frame answers is the job's answer
+  pub job_answer_is : {w h : ℕ} {binned : Bool} {part readings : List ℕ} {sums : List ℤ} {words : List ℕ} (answer : Answer)
+      → Handed bytes w h binned part readings sums words
+      → verdict (input_checks bytes total) ≡ Ok tt
+      → answer ≡ frame_answer w h binned part readings sums words
+      → answer ≡ job_answer bytes total
+  job_answer_is answer e t a = a ∙ handed frame_answer e ∙ sym (answer_is ∙ rw t)
+
   -- a record that is too long is refused, with any readings
   module _ (long : longest < length (record_of bytes)) where
     pub overlong_is : job_answer bytes total ≡ first (verdict (input_checks bytes total)) (overlong_answer (width_of bytes) (height_of bytes) (is_binned bytes) (map_of (record_of bytes)))
@@ -123,6 +132,10 @@ module _ (bytes : List ℕ) (total : ℕ) where
   pub turned_down : (r : Refusal) → job_answer bytes total ≡ Err r → result_of bytes total ≡ Err r
   unfolding result_of
   turned_down r e = rw e
+
+  -- what the checks of the input refuse
+  pub input_refused : (r : Refusal) → verdict (input_checks bytes total) ≡ Err r → result_of bytes total ≡ Err r
+  input_refused r e = turned_down r (answer_is ∙ rw e)
 
   pub carried : (job : Job)
       → job_answer bytes total ≡ Ok tt

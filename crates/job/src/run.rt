@@ -1,18 +1,16 @@
-// What comes of a job.
-ghost use Rattle.std.specs.Prelude.{◌≡◌, cond, ℕ, ◌/◌, ◌≤◌, Ok};
+//! What comes of a job.
+ghost use Rattle.std.specs.Prelude.{◌≡◌, cond, ◌/◌, Ok};
 ghost use Rattle.checks.specs.Checks.{verdict};
-ghost use Rattle.input.specs.Input.{max_pixels};
-ghost use Rattle.input.specs.Checks.{area, input_checks};
+ghost use Rattle.input.specs.Checks.{input_checks};
 ghost use Rattle.job.specs.Job.{result_of};
 
 use crate::{Job, READINGS};
 use arrayvec::ArrayVec;
 use begin::begin;
 use checks::Refusal;
-use input::{PIXELS, check_input, sides_of};
+use input::{Input, PIXELS};
 use pairs::decode;
 use read_out::word_count;
-use record::byte;
 use sides::Sides;
 use whole_frame::frame_of;
 
@@ -28,28 +26,31 @@ fn columns(sides: Sides) -> usize
 }
 
 // A job whose input the checks take.
-fn carry_out(input: &[u8]) -> Result<Job, Refusal>
-    requires { area input.now ≤ max_pixels }
-    ensures { (total : ℕ) → verdict (input_checks input.now total) ≡ Ok tt → result ≡ result_of input.now total }
+#[tactic(auto, using(input::proofs::Checking::few_pixels))]
+fn carry_out(input: Input) -> Result<Job, Refusal>
+    requires { verdict (input_checks input.kept.now input.total) ≡ Ok tt }
+    ensures { result ≡ result_of input.entry.kept.now input.entry.total }
 {
-    let sides = sides_of(input);
-    let pixels = sides.width * sides.height;
-    let from = input.len().min(6);
-    let start = input.len().min(6 + usize::from(byte(input, 5)));
-    let fed = ((input.len() - start) / 2).min(READINGS);
-    let record = &input[from..start];
+    let kept = input.kept;
+    let sides = input.sides();
+    let from = kept.len().min(6);
+    let start = kept.len().min(input.readings_at());
+    let fed = ((kept.len() - start) / 2).min(READINGS);
+    let record = &kept[from..start];
+    // Called here too, and not in `frame_of` alone: its board says how many words there are, and by which r they are read.
     let board = begin(sides, record)?;
-    // Arrays, since Feed is lent slices of them.
-    let mut readings = [0u16; READINGS];
-    let mut sums = [0i32; PIXELS];
+    let mut readings = ArrayVec::from([0u16; READINGS]);
+    readings.truncate(fed);
+    decode(&kept[start..start + 2 * fed], readings.as_mut_slice());
+    let mut sums = ArrayVec::from([0i32; PIXELS]);
+    sums.truncate(sides.width * sides.height);
     let mut words = ArrayVec::from([0u16; PIXELS]);
     words.truncate(word_count(board));
-    decode(&input[start..start + 2 * fed], &mut readings[..fed]);
     frame_of(
         sides,
         record,
-        &readings[..fed],
-        &mut sums[..pixels],
+        &readings,
+        sums.as_mut_slice(),
         words.as_mut_slice(),
     )?;
     Ok(Job {
@@ -59,10 +60,11 @@ fn carry_out(input: &[u8]) -> Result<Job, Refusal>
     })
 }
 
-// What comes of an input, of which `total` is the whole length: the words of its frame, or a refusal.
-pub fn run(input: &[u8], total: usize) -> Result<Job, Refusal>
-    ensures { result ≡ result_of input.now total }
+/// What comes of an input: the words of its frame, or a refusal.
+#[tactic(auto, using(crate::proofs::Jobs::input_refused))]
+pub fn run(input: Input) -> Result<Job, Refusal>
+    ensures { result ≡ result_of input.entry.kept.now input.entry.total }
 {
-    check_input(input, total)?;
+    input.check()?;
     carry_out(input)
 }

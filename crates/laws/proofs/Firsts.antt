@@ -6,13 +6,14 @@
 use Prim.Native.Nat.{ℕ, zero, suc, ◌≤◌, ◌<◌}
 use mathlib.Core.Bool.{Bool, true, false, cond}
 use mathlib.Core.List.{List, [], ◌∷◌}
-use mathlib.Core.Option.{Option, none, some}
+use Rattle.std.specs.Prelude.{Option, Some, None}
+use Rattle.std.specs.Option.{option_or}
 use mathlib.Core.Path.{◌≡◌, refl, sym, ap, ◌∙◌}
 use native.Mathlib.Decide.{ℕ_discrete}
 use native.Mathlib.Omega.{arith}
 use lib.IntN.{ℤ}
 use Rattle.laws.specs.Lists.{any_of}
-use Rattle.laws.specs.Numbers.{First, first_of, or_else, sum_to}
+use Rattle.laws.specs.Numbers.{First, first_of, sum_to}
 use Rattle.laws.proofs.Parts.{All}
 use Rattle.laws.proofs.Tests.{clash, neither}
 
@@ -20,14 +21,14 @@ abbrev pub Nowhere : (ℕ → Bool) → ℕ → Type 0
 Nowhere t k = (n : ℕ) → 1 ≤ n → n ≤ k → t n ≡ false
 
 abbrev pub Says : (ℕ → Bool) → ℕ → Option ℕ → Type 0
-Says t k (some n) = First t k n
-Says t k none = Nowhere t k
+Says t k (Some n) = First t k n
+Says t k None = Nowhere t k
 
 module _ (t : ℕ → Bool) where
-  one_more : (k : ℕ) (o : Option ℕ) → Says t k o → (b : Bool) → t (suc k) ≡ b → Says t (suc k) (or_else o (cond b (some (suc k)) none))
-  one_more k (some n) f b e = record { low = f.low; high = omega (arith, f.high); holds = f.holds; none_before = f.none_before }
-  one_more k none f true e = record { low = omega arith; high = omega arith; holds = e; none_before = λ m a l. f m a (omega arith) }
-  one_more k none f false e = λ n a l. at n a l (ℕ_discrete n (suc k))
+  one_more : (k : ℕ) (o : Option ℕ) → Says t k o → (b : Bool) → t (suc k) ≡ b → Says t (suc k) (option_or o (cond b (Some (suc k)) None))
+  one_more k (Some n) f b e = record { low = f.low; high = omega (arith, f.high); holds = f.holds; none_before = f.none_before }
+  one_more k None f true e = record { low = omega arith; high = omega arith; holds = e; none_before = λ m a l. f m a (omega arith) }
+  one_more k None f false e = λ n a l. at n a l (ℕ_discrete n (suc k))
     where
       at : (n : ℕ) → 1 ≤ n → n ≤ suc k → Dec (n ≡ suc k) → t n ≡ false
       at n a l (yes q) = rw q e
@@ -41,19 +42,19 @@ module _ (t : ℕ → Bool) where
   only : (k n m : ℕ) → First t k n → First t k m → n < m → ⊥
   only k n m f g l = clash (sym f.holds ∙ g.none_before n f.low l)
 
-  pub first_found : (k n : ℕ) → First t k n → first_of k t ≡ some n
+  pub first_found : (k n : ℕ) → First t k n → first_of k t ≡ Some n
   first_found k n f = by (first_of k t) (first_says k)
     where
-      by : (o : Option ℕ) → Says t k o → o ≡ some n
-      by none g = clash (sym f.holds ∙ g n f.low f.high)
-      by (some m) g = ap some (omega (arith, only k n m f g, only k m n g f))
+      by : (o : Option ℕ) → Says t k o → o ≡ Some n
+      by None g = clash (sym f.holds ∙ g n f.low f.high)
+      by (Some m) g = ap Some (omega (arith, only k n m f g, only k m n g f))
 
-  pub first_not : (k : ℕ) → Nowhere t k → first_of k t ≡ none
+  pub first_not : (k : ℕ) → Nowhere t k → first_of k t ≡ None
   first_not k h = by (first_of k t) (first_says k)
     where
-      by : (o : Option ℕ) → Says t k o → o ≡ none
-      by none g = refl
-      by (some m) g = clash (sym g.holds ∙ h m g.low g.high)
+      by : (o : Option ℕ) → Says t k o → o ≡ None
+      by None g = refl
+      by (Some m) g = clash (sym g.holds ∙ h m g.low g.high)
 
 pub first_same : (t u : ℕ → Bool) (k : ℕ) → ((n : ℕ) → 1 ≤ n → n ≤ k → t n ≡ u n) → first_of k t ≡ first_of k u
 unfolding first_of

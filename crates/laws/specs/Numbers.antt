@@ -1,6 +1,6 @@
 -- The numbers from 1 to k: a sum over them, and the first at which a test holds.
-use Rattle.std.specs.Prelude.{ℕ, zero, suc, ◌≤◌, ◌<◌, Bool, true, false, cond, ◌≡◌, ℤ, pos, ◌+ℤ◌}
-use Rattle.std.proofs.Math.Option.{Option, none, some}
+use Rattle.std.specs.Prelude.{ℕ, zero, suc, ◌≤◌, ◌<◌, Bool, true, false, cond, ◌≡◌, ℤ, pos, ◌+ℤ◌, Option, Some, None}
+use Rattle.std.specs.Option.{option_or}
 
 -- f 1 + f 2 + .. + f k
 unfoldable pub sum_to : ℕ → (ℕ → ℤ) → ℤ
@@ -14,12 +14,7 @@ pub record First (test : ℕ → Bool) (k n : ℕ) : Type 0 where
   pub holds : test n ≡ true
   pub none_before : (m : ℕ) → 1 ≤ m → m < n → test m ≡ false
 
--- a number that was found, or else another
-abbrev pub or_else : Option ℕ → Option ℕ → Option ℕ
-or_else (some n) other = some n
-or_else none other = other
-
 -- the first of 1 to k at which the test holds
 unfoldable pub first_of : ℕ → (ℕ → Bool) → Option ℕ
-first_of zero test = none
-first_of (suc k) test = or_else (first_of k test) (cond (test (suc k)) (some (suc k)) none)
+first_of zero test = None
+first_of (suc k) test = option_or (first_of k test) (cond (test (suc k)) (Some (suc k)) None)

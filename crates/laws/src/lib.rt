@@ -1,2 +1,2 @@
-// No code: the laws that the other crates' proofs cite.
+//! No code: the laws that the other crates' proofs cite.
 #![tactic(auto)]

@@ -1,4 +1,6 @@
-// The passes over a whole frame: which entries make which word. r is one of the settings' plain numbers: its range stands in each contract, here and in `words`.
+//! The passes over a whole frame: which entries make which word. The range of r stands in each contract, here and in `words`: it is one of the settings' plain numbers, as
+//! document 01 has them. So does that of the entries: a type for one would be made anew at each element. `Readable`,
+//! what a pass asks of sides, sums and words together, is one record.
 #![tactic(auto)]
 
 ghost use Rattle.std.specs.Prelude.{◌≡◌, true, false, ℕ, ◌*◌, pos, length, get_or};
@@ -55,7 +57,7 @@ fn write_squares(sums: &[i32], words: &mut [u16], sides: Sides, truncation: u16)
     }
 }
 
-// The frame of the sums, of pixels or of squares.
+/// The frame of the sums, of pixels or of squares.
 pub fn write_frame(sums: &[i32], words: &mut [u16], sides: Sides, truncation: u16)
     requires { Readable sides.width sides.height sides.binned truncation sums.now words.old }
     ensures { words.new ≡ frame_of sides.width sides.binned truncation sums.now }

@@ -1,4 +1,5 @@
-// The lines of a frame, at the end of a list of bytes.
+//! The lines of a frame, at the end of a list of bytes.
+//! No `Display`: as in `text`.
 #![tactic(auto)]
 
 ghost use Rattle.std.specs.Prelude.{◌≡◌, ◌++◌, ◌+◌, ◌*◌, ◌≤◌, ◌<◌, length};
@@ -39,7 +40,7 @@ fn put_line<const ROOM: usize>(
     put(out, b"\n");
 }
 
-// The lines of the words, row by row.
+/// The lines of the words, row by row.
 #[tactic(auto, unfolding(crate::specs::Lines::lines_text))]
 pub fn put_lines<const ROOM: usize>(
     out: &mut ArrayVec<u8, ROOM>,

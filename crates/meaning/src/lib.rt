@@ -1,4 +1,4 @@
-// Read a word: what it means, and whether it is a flag.
+//! Read a word: what it means, and whether it is a flag.
 #![tactic(auto)]
 
 ghost use Rattle.std.specs.Prelude.{◌≡◌, ◌≤◌};
@@ -7,7 +7,7 @@ ghost use Rattle.meaning.specs.Meaning.{meaning, read_word, is_flag};
 use checks::{Reason, Refusal, refuse_when};
 use ranges::truncation_in_range;
 
-// What a word means: the limits of its sum, or a flag.
+/// What a word means: the limits of its sum, or a flag.
 #[derive(Clone, Copy, Debug, PartialEq)]
 pub enum WordRead {
     Ordinary { low: f64, high: f64 },
@@ -37,7 +37,7 @@ fn meaning_of(word: u16, truncation: u16) -> WordRead
     }
 }
 
-// Read a word: the limits or the flag that it means, or refusal 7.
+/// Read a word: the limits or the flag that it means, or refusal 7.
 #[tactic(auto, unfolding(crate::specs::Meaning::read_word))]
 pub fn read_word(word: u16, truncation: u16) -> Result<WordRead, Refusal>
     ensures { result ≡ read_word truncation word }
@@ -46,10 +46,10 @@ pub fn read_word(word: u16, truncation: u16) -> Result<WordRead, Refusal>
     Ok(meaning_of(word, truncation))
 }
 
-// Whether a word means saturated or negative.
+/// Whether a word means saturated or negative.
 #[tactic(auto, unfolding(crate::specs::Meaning::is_flag))]
 pub fn is_flag(word: u16) -> bool
     ensures { result ≡ is_flag word }
 {
-    (32753 <= word) & (word <= 32761) | (word == 32767)
+    matches!(word, 32753..=32761 | 32767)
 }

@@ -1,2 +1,2 @@
-// No code: the checks and the outcome of each operation on a board, and their laws.
+//! No code: the checks and the outcome of each operation on a board, and their laws.
 #![tactic(auto)]

@@ -1,4 +1,4 @@
-// Numbers of two bytes each, low byte first.
+//! Numbers of two bytes each, low byte first.
 #![tactic(auto)]
 
 ghost use Rattle.std.specs.Prelude.{◌≡◌, ◌*◌, ◌<◌, ◌≤◌, length, take};
@@ -6,7 +6,7 @@ ghost use Rattle.pairs.specs.Pairs.{pairs};
 
 use record::pair;
 
-// The first readings in the bytes, as many as the buffer holds.
+/// The first readings in the bytes, as many as the buffer holds.
 pub fn decode(bytes: &[u8], readings: &mut [u16])
     requires readings_in_bounds { 2 * length readings.old ≤ length bytes.now }
     requires bytes_len_bound { length bytes.now < 1000000 }

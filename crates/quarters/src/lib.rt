@@ -1,8 +1,9 @@
-// A slice in four parts of one length, and what is left over.
+//! A slice in four parts of one length, and what is left over.
 #![tactic(auto)]
 
 ghost use Rattle.std.specs.Prelude.{◌≡◌, ◌+◌, ◌/◌, length, take, drop};
 
+#[derive(Clone, Copy, Debug, PartialEq, Eq)]
 pub struct Quarters<'a, T> {
     pub first: &'a [T],
     pub second: &'a [T],

@@ -22,9 +22,8 @@ use Rattle.ramp.specs.Requires.{Feedable}
 use Rattle.step.proofs.Steps.{possible_step}
 use Rattle.written.proofs.Places.{place}
 use Rattle.sums.proofs.Feeding.{feed_length, feed_append, feed_part}
-use Rattle.written.proofs.Intervals.{Ready}
+use Rattle.written.proofs.Intervals.{Ready, written_ready}
 use Rattle.sums.proofs.Ready.{ready_all}
-use Rattle.written.proofs.Intervals.{written_ready}
 
 module _ (s : Settings) (f : ℕ) (xs : List ℕ) (ss : List ℤ) (h : Feedable s f xs ss) (at k : ℕ) (hf : f ≤ at) (hk : at + k ≤ f + length xs) (hp : at % length ss + k ≤ length ss) where
   abbrev m : ℕ

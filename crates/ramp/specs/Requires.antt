@@ -1,9 +1,8 @@
 -- What the pass of Feed requires. No rule of the product stands here: it is what the board has checked by then.
-use Rattle.std.specs.Prelude.{ℕ, ◌+◌, ◌*◌, ◌≤◌, ◌<◌, true, List, ◌≡◌, ℤ, pos, length}
+use Rattle.std.specs.Prelude.{ℕ, ◌+◌, ◌*◌, ◌≤◌, ◌<◌, true, List, ◌≡◌, ℤ, pos, length, None}
 use Rattle.laws.specs.Lists.{every}
 use Rattle.settings.specs.declared.Settings.{Settings}
 use Rattle.settings.specs.Settings.{max_samples, in_range}
-use Rattle.std.specs.Prelude.{None}
 use Rattle.checks.specs.Search.{first_place}
 use Rattle.readings.specs.Readings.{reading_in_range}
 use Rattle.entries.specs.Possible.{possible}

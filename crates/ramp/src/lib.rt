@@ -1,4 +1,4 @@
-// The sum of a ramp: the passes of Feed over readings and sums.
+//! The sum of a ramp: the passes of Feed over readings and sums. The ranges of both, and of a sample's number, stand in each contract, as in `step`.
 #![tactic(auto)]
 
 ghost use Rattle.std.specs.Prelude.{◌≡◌, true, ◌≤◌, ◌<◌, length};
@@ -36,20 +36,16 @@ fn feed_sample(readings: &[u16], sums: &mut [i32], n: usize, settings: Settings)
     requires sums_value { 1 < n → every entry_in_range sums.old ≡ true }
     ensures { sums.new ≡ over (λ x e. step settings n e x) readings.now sums.old }
 {
-    let weight = settings.weight(n);
-    let threshold = settings.threshold;
-    feed_part(
-        readings,
-        sums,
-        Sample {
-            n,
-            weight,
-            threshold,
-        },
-    );
+    let sample = Sample {
+        n,
+        weight: settings.weight(n),
+        threshold: settings.threshold,
+    };
+    feed_part(readings, sums, sample);
 }
 
-// Feed: sample by sample, each over the part of the sums that its readings reach. The first part may begin within a sample, so these are no chunks of one length.
+/// Feed: sample by sample, each over the part of the sums that its readings reach. No chunks: the first part may begin within a sample, and would be a second call beside
+/// theirs.
 pub fn feed(readings: &[u16], sums: &mut [i32], fed: usize, settings: Settings)
     requires { Feedable settings fed readings.now sums.old }
     ensures { sums.new ≡ sums_after settings fed readings.now sums.old }

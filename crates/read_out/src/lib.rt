@@ -1,4 +1,4 @@
-// Read out.
+//! Read out.
 #![tactic(auto)]
 
 ghost use Rattle.std.specs.Prelude.{◌≡◌, true};
@@ -12,7 +12,7 @@ use checks::{Answer, Reason, refuse_at, refuse_when};
 use impossible::first_impossible;
 use layout::write_frame;
 
-// How many words a frame has: one for each pixel, or each square; 0 for sides that Open doesn't take.
+/// How many words a frame has: one for each pixel, or each square; 0 for sides that Open doesn't take, as `Sides::area` has it.
 pub fn word_count(board: Board) -> usize
     ensures { result ≡ of_taken_sides board (word_count board.sides.binned (area board)) }
 {
@@ -31,8 +31,7 @@ fn check_output(board: Board, sums: &[i32], words: usize) -> Answer
 {
     refuse_when(board.fed < board.wanted(), Reason::ReadingsWanted)?;
     refuse_when(words != word_count(board), Reason::WordsLength)?;
-    // `as` only widens here: `From` says no more.
-    let impossible = first_impossible(sums, board.in_force.samples as usize);
+    let impossible = first_impossible(sums, board.in_force.samples.into());
     refuse_at(impossible, Reason::EntryNotPossible)
 }
 
@@ -43,7 +42,7 @@ fn check_read_out(board: Board, sums: &[i32], words: &[u16]) -> Answer
     check_output(board, sums, words.len())
 }
 
-// Read out: every check first, then the frame goes into the output.
+/// Read out: every check first, then the frame goes into the output.
 #[tactic(auto, unfolding(operations::specs::ReadOut::read_out_of, operations::specs::ReadOut::read_out_words))]
 pub fn read_out(board: &mut Board, sums: &[i32], words: &mut [u16]) -> Answer
     ensures answer { result ≡ (read_out_of board.old sums.now words.old).answer }

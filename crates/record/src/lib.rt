@@ -1,11 +1,11 @@
-// The bytes of an update record: a map of two bytes, then the fields whose bit stands.
+//! The bytes of an update record: a map of two bytes, then the fields whose bit stands.
 #![tactic(auto)]
 
 ghost use Rattle.std.specs.Prelude.{◌≡◌, get_or};
 ghost use Rattle.record.specs.Record as Def;
 ghost use Rattle.record.specs.Record.{field_count, field_of, number_at, pair_at, place_of, weight_of, width_of};
 
-// A field of an update record. `Weight(i)` is weight i + 1.
+/// A field of an update record. `Weight(i)` is weight i + 1.
 #[derive(Clone, Copy, Debug, PartialEq, Eq)]
 pub enum Field {
     Weight(usize),
@@ -14,37 +14,32 @@ pub enum Field {
     Samples,
 }
 
-// How many fields there are: bits 0 to 11 of the map.
+/// How many fields there are: bits 0 to 11 of the map.
 pub const FIELDS: usize = 12;
 
-// Whether bit i of n stands.
+/// Whether bit i of n stands.
 pub fn stands(n: u16, i: usize) -> bool
     ensures { result ≡ Def.stands n i }
 {
     i < 16 && n >> i & 1 == 1
 }
 
-// A byte, 0 past the end.
+/// A byte, 0 past the end: it can't fail, as the definitions have it, which name a field by its place.
 pub fn byte(bytes: &[u8], at: usize) -> u8
     ensures { result ≡ get_or bytes.now at 0 }
 {
     bytes.get(at).copied().unwrap_or(0)
 }
 
-// The two bytes at a place, low byte first.
+/// The two bytes at a place, low byte first.
 pub fn pair(bytes: &[u8], at: usize) -> u16
     ensures { result ≡ pair_at bytes.now at }
 {
-    // After the last place there is none.
-    if at < bytes.len() {
-        u16::from_le_bytes([byte(bytes, at), byte(bytes, at + 1)])
-    } else {
-        0
-    }
+    u16::from_le_bytes([byte(bytes, at), byte(bytes, at.saturating_add(1))])
 }
 
 impl Field {
-    // The field of a bit.
+    /// The field of a bit. No `From`: that the number is a bit stands in the name.
     #[tactic(auto, unfolding(crate::specs::Record::field_of))]
     pub fn of_bit(bit: usize) -> Field
         ensures { result ≡ field_of bit }
@@ -57,7 +52,7 @@ impl Field {
         }
     }
 
-    // How many bytes it takes.
+    /// How many bytes it takes.
     pub fn width(self) -> usize
         ensures { result ≡ width_of self }
     {
@@ -69,7 +64,7 @@ impl Field {
         }
     }
 
-    // Its number at a place.
+    /// Its number at a place.
     pub fn number_at(self, bytes: &[u8], at: usize) -> u16
         ensures { result ≡ number_at self bytes.now at }
     {
@@ -80,7 +75,7 @@ impl Field {
     }
 }
 
-// Where the fields that a map calls for end.
+/// Where the fields that a map calls for end.
 #[tactic(auto, unfolding(crate::specs::Record::place_of))]
 pub fn end_of(map: u16) -> usize
     ensures { result ≡ place_of map field_count }
@@ -94,12 +89,11 @@ pub fn end_of(map: u16) -> usize
     end
 }
 
-// The signed value of a weight byte: the sign in bit 4, the magnitude in bits 0 to 3.
+/// The signed value of a weight byte: the sign in bit 4, the magnitude in bits 0 to 3.
 #[tactic(auto, unfolding(crate::specs::Record::weight_of), using(crate::proofs::Magnitudes::read_size, crate::proofs::Magnitudes::neg_read))]
 pub fn weight_of(b: u16) -> i32
     ensures { result ≡ weight_of b }
 {
-    // `as` only widens here: `From` says no more.
-    let magnitude = (b & 15) as i32;
+    let magnitude = i32::from(b & 15);
     if stands(b, 4) { -magnitude } else { magnitude }
 }

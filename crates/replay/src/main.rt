@@ -1,12 +1,11 @@
-// The replay: a script of calls comes in on standard input; each call's answer, the board it leaves and each frame go out as text.
+//! The replay: a script of calls comes in on standard input; each call's answer, the board it leaves and each frame go out as text.
 #![tactic(auto)]
 
 use crate::player::Player;
-use filling::read_into;
+use console::Output;
 use items::Numbers;
 use script::{Lines, first_malformed};
-use std::io;
-use std::io::Read;
+use std::fmt::{self, Write};
 
 mod player;
 mod show;
@@ -18,35 +17,35 @@ const LONGEST: usize = 262144;
 const ROOM: usize = LONGEST + 1;
 
 // Plays the lines one after the other.
-fn play(rt: &impl Print, script: &[u8], list: &mut Numbers) -> io::Result<()> {
+fn play(out: &mut Output, script: &[u8], list: &mut Numbers) -> fmt::Result {
     let mut player = Player::new();
     for line in Lines(script) {
-        player.play(rt, line, list)?;
+        player.play(out, line, list)?;
     }
     Ok(())
 }
 
 // Every line is read before the first is played.
-fn replay(rt: &impl Print, script: &[u8]) -> io::Result<()> {
+fn replay(out: &mut Output, script: &[u8]) -> fmt::Result {
     let mut list = Numbers::new();
     match first_malformed(script, &mut list) {
-        Some(line) => println!(rt; "malformed line {line}"),
-        None => play(rt, script, &mut list),
+        Some(line) => writeln!(out, "malformed line {line}"),
+        None => play(out, script, &mut list),
     }
 }
 
 // Reads a script, and replays it.
-fn run(rt: &impl Print, input: &mut impl Read) -> io::Result<()> {
+fn run(out: &mut Output) -> fmt::Result {
     let mut buffer = [0; ROOM];
-    let count = read_into(&mut buffer, input);
+    let count = console::read(&mut buffer);
     if count > LONGEST {
-        println!(rt; "script too long")
+        writeln!(out, "script too long")
     } else {
-        replay(rt, &buffer[..count])
+        replay(out, &buffer[..count])
     }
 }
 
-// A write that fails ends the replay, and the status stays 0.
-fn main(rt: HostRuntime) {
-    let _ = run(&rt, &mut rt.stdin());
+// A write to `Output` never fails.
+fn main() {
+    let _ = run(&mut Output);
 }

@@ -1,4 +1,4 @@
-// The commands of a script, played on a board, on the sums that are lent and on the words.
+//! The commands of a script, played on a board, on the sums that are lent and on the words.
 ghost use Rattle.commands.specs.Ranges.{InRange};
 
 use crate::show::{Flag, Flags, Meaning, Shown, Tens, Told};
@@ -6,6 +6,7 @@ use arrayvec::ArrayVec;
 use board::Board;
 use checks::Answer;
 use commands::Command;
+use console::Output;
 use control::covered;
 use feed::feed;
 use flags::{count_flags, nearest_flag};
@@ -16,7 +17,8 @@ use read_out::read_out;
 use script::said;
 use settings::Settings;
 use sides::Sides;
-use std::{io, mem};
+use std::fmt::{self, Write};
+use std::mem;
 
 // A board, the sums that are lent and the spare ones, and the words.
 #[derive(Drop)]
@@ -28,7 +30,7 @@ pub(crate) struct Player {
 }
 
 impl Player {
-    // No board is open, and the sums and the words are empty.
+    // No board is open, and the sums and the words are empty. No `Option`: until one is open a replay shows and calls this board of no pixels, which is not sound.
     pub(crate) fn new() -> Player {
         Player {
             board: Board {
@@ -64,31 +66,31 @@ impl Player {
     }
 
     // The answer of a call, and the board that it leaves.
-    fn show(&self, rt: &impl Print, answer: Answer) -> io::Result<()> {
+    fn show(&self, out: &mut Output, answer: Answer) -> fmt::Result {
         let told = Told(answer.map(|_| "taken"));
         let board = Shown(self.board);
-        println!(rt; "{told}\n{board}")
+        writeln!(out, "{told}\n{board}")
     }
 
     // Read out, and the frame if it is taken.
-    fn frame(&mut self, rt: &impl Print, count: usize) -> io::Result<()> {
+    fn frame(&mut self, out: &mut Output, count: usize) -> fmt::Result {
         let answer = self.read_out(count);
-        self.show(rt, answer)?;
+        self.show(out, answer)?;
         if answer.is_ok() {
-            rt.print(Tens(self.words.as_slice()))?;
+            write!(out, "{}", Tens(self.words.as_slice()))?;
         }
         Ok(())
     }
 
-    fn poke(&mut self, rt: &impl Print, index: usize, entry: i32) -> io::Result<()> {
+    fn poke(&mut self, out: &mut Output, index: usize, entry: i32) -> fmt::Result {
         let Some(old) = self.sums.get_mut(index) else {
-            return println!(rt; "outside");
+            return writeln!(out, "outside");
         };
         *old = entry;
-        println!(rt; "taken")
+        writeln!(out, "taken")
     }
 
-    // The words as a frame.
+    // The words as a frame, of the width and height that a command names.
     fn words_as(&self, width: usize, height: usize) -> Frame<'_> {
         Frame {
             words: self.words.as_slice(),
@@ -97,65 +99,66 @@ impl Player {
         }
     }
 
-    // A command. The list has the bytes of an update, the readings of a feed and the words.
-    fn run(&mut self, rt: &impl Print, command: Command, list: &[i64]) -> io::Result<()>
+    // A command, of a closed set: so a `match`. The list has the bytes of an update, the readings of a feed and the words, of which the first are taken as its count says.
+    fn run(&mut self, out: &mut Output, command: Command, list: &[i64]) -> fmt::Result
         requires { InRange command }
     {
         match command {
             Command::Open(sides) => {
                 let answer = self.open(sides);
-                self.show(rt, answer)
+                self.show(out, answer)
             }
             Command::Update(count) => {
                 let bytes = bytes_of(list);
                 let answer = control::update(&mut self.board, &bytes[..count]);
-                self.show(rt, answer)
+                self.show(out, answer)
             }
             Command::Start => {
                 let answer = control::start(&mut self.board);
-                self.show(rt, answer)
+                self.show(out, answer)
             }
             Command::Feed { count, same } => {
                 let readings = shorts_of(list, same);
                 let sums = self.sums.as_mut_slice();
                 let answer = feed(&mut self.board, &readings[..count], sums);
-                self.show(rt, answer)
+                self.show(out, answer)
             }
-            Command::ReadOut(count) => self.frame(rt, count),
+            Command::ReadOut(count) => self.frame(out, count),
             Command::Drop => {
                 let answer = control::drop(&mut self.board);
-                self.show(rt, answer)
+                self.show(out, answer)
             }
             Command::Covered => {
                 let covered = covered(self.board);
-                rt.println(Told(covered.map(|yes| if yes { "covered" } else { "uncovered" })))
+                let told = Told(covered.map(|yes| if yes { "covered" } else { "uncovered" }));
+                writeln!(out, "{told}")
             }
             Command::Word { word, truncation } => {
-                rt.println(Told(read_word(word, truncation).map(Meaning)))
+                writeln!(out, "{}", Told(read_word(word, truncation).map(Meaning)))
             }
             Command::Sums { length, entry } => {
                 self.sums = ArrayVec::from([entry; MOST]);
                 self.sums.truncate(length);
-                println!(rt; "taken")
+                writeln!(out, "taken")
             }
-            Command::Poke { index, entry } => self.poke(rt, index, entry),
+            Command::Poke { index, entry } => self.poke(out, index, entry),
             Command::Swap => {
                 mem::swap(&mut self.sums, &mut self.spare);
-                println!(rt; "taken")
+                writeln!(out, "taken")
             }
             Command::PrintSums { start, count } => {
                 match self.sums.as_slice().get(start..start + count) {
                     Some(sums) => {
-                        println!(rt; "taken")?;
-                        rt.print(Tens(sums))
+                        writeln!(out, "taken")?;
+                        write!(out, "{}", Tens(sums))
                     }
-                    None => println!(rt; "outside"),
+                    None => writeln!(out, "outside"),
                 }
             }
             Command::Words(count) => {
                 self.words = ArrayVec::from(shorts_of(list, false));
                 self.words.truncate(count);
-                println!(rt; "taken")
+                writeln!(out, "taken")
             }
             Command::Nearest {
                 width,
@@ -163,7 +166,7 @@ impl Player {
                 place,
             } => {
                 let frame = self.words_as(width, height);
-                rt.println(Told(nearest_flag(frame, place).map(Flag)))
+                writeln!(out, "{}", Told(nearest_flag(frame, place).map(Flag)))
             }
             Command::Count {
                 width,
@@ -172,7 +175,7 @@ impl Player {
                 last,
             } => {
                 let frame = self.words_as(width, height);
-                rt.println(Told(count_flags(frame, first, last).map(Flags)))
+                writeln!(out, "{}", Told(count_flags(frame, first, last).map(Flags)))
             }
         }
     }
@@ -180,12 +183,12 @@ impl Player {
     // Plays a line that is not malformed. Its numbers go into the list.
     pub(crate) fn play(
         &mut self,
-        rt: &impl Print,
+        out: &mut Output,
         line: &[u8],
         list: &mut Numbers,
-    ) -> io::Result<()> {
+    ) -> fmt::Result {
         match said(line, list) {
-            Ok(Some(command)) => self.run(rt, command, list.as_slice()),
+            Ok(Some(command)) => self.run(out, command, list.as_slice()),
             _ => Ok(()),
         }
     }

@@ -1,11 +1,10 @@
-// What a replay prints.
+//! What a replay prints.
 use board::Board;
 use checks::Refusal;
 use meaning::WordRead;
 use places::Place;
 use settings::Settings;
-use std::fmt;
-use std::fmt::Display;
+use std::fmt::{self, Display};
 
 // What a call answers, or its refusal with number and place.
 #[derive(Drop)]
@@ -15,11 +14,7 @@ impl<T: Display> Display for Told<T> {
     fn fmt<W: fmt::Write>(&self, f: &mut fmt::Formatter<W>) -> fmt::Result {
         match &self.0 {
             Ok(answer) => write!(f, "{answer}"),
-            Err(refusal) => {
-                let number = refusal.reason.number();
-                let place = refusal.place;
-                write!(f, "refused {number} {place}")
-            }
+            Err(refusal) => write!(f, "refused {} {}", refusal.reason.number(), refusal.place),
         }
     }
 }
@@ -58,8 +53,7 @@ pub(crate) struct Flags(pub(crate) usize);
 
 impl Display for Flags {
     fn fmt<W: fmt::Write>(&self, f: &mut fmt::Formatter<W>) -> fmt::Result {
-        let count = self.0;
-        write!(f, "flags {count}")
+        write!(f, "flags {}", self.0)
     }
 }
 
@@ -73,10 +67,11 @@ impl Display for Listed {
         for weight in settings.weights {
             write!(f, " {weight}")?;
         }
-        let threshold = settings.threshold;
-        let truncation = settings.truncation;
-        let samples = settings.samples;
-        write!(f, " {threshold} {truncation} {samples}")
+        write!(
+            f,
+            " {} {} {}",
+            settings.threshold, settings.truncation, settings.samples
+        )
     }
 }
 
@@ -86,17 +81,22 @@ pub(crate) struct Shown(pub(crate) Board);
 
 impl Display for Shown {
     fn fmt<W: fmt::Write>(&self, f: &mut fmt::Formatter<W>) -> fmt::Result {
-        let board = self.0;
-        let width = board.sides.width;
-        let height = board.sides.height;
-        let binned = u8::from(board.sides.binned);
-        let running = u8::from(board.running);
-        let fed = board.fed;
-        let waiting = Listed(board.waiting);
-        let in_force = Listed(board.in_force);
+        let Board {
+            sides,
+            waiting,
+            in_force,
+            running,
+            fed,
+        } = self.0;
         write!(
             f,
-            "board {width} {height} {binned} {running} {fed}{waiting}{in_force}"
+            "board {} {} {} {} {fed}{}{}",
+            sides.width,
+            sides.height,
+            u8::from(sides.binned),
+            u8::from(running),
+            Listed(waiting),
+            Listed(in_force)
         )
     }
 }

@@ -1,8 +1,6 @@
 -- The lines of a script.
-use Rattle.std.specs.Prelude.{◌≡◌, ℕ, ◌+◌, ◌≤◌, ◌==◌, List, length, take, drop}
+use Rattle.std.specs.Prelude.{◌≡◌, ℕ, ◌+◌, ◌≤◌, ◌==◌, List, length, take, drop, Option, Some, None}
 use Rattle.std.specs.List.{position_or_len}
-use Rattle.std.specs.Prelude.{Option}
-use Rattle.std.specs.Prelude.{Some, None}
 
 -- where a byte stands first, or the length of a list that doesn't hold it
 abbrev pub index_of : ℕ → List ℕ → ℕ

@@ -1,4 +1,4 @@
-// A script of calls on a board: its lines, and what each of them says.
+//! A script of calls on a board: its lines, and what each of them says.
 #![tactic(auto)]
 
 ghost use Rattle.std.specs.Prelude.{◌≡◌, ◌==◌, ◌≤◌, max, [], length, IfOk, IfSome, MatchOption};
@@ -20,7 +20,8 @@ fn first_place(bytes: &[u8], byte: u8) -> Option<usize>
     bytes.iter().position(|b| *b == byte)
 }
 
-// Where a byte stands first, or how many bytes there are if it stands nowhere.
+// Where a byte stands first, or how many bytes there are if it stands nowhere: the last line has no end, and a word alone no space. An `Option` would leave that to each caller.
+#[tactic(auto, using(crate::proofs::First::position_or))]
 fn place_of(bytes: &[u8], byte: u8) -> usize
     ensures place { result ≡ index_of byte bytes.now }
     ensures bound { result ≤ length bytes.now }
@@ -39,7 +40,7 @@ fn word_end(line: &[u8]) -> usize
     }
 }
 
-// What a line says: a command, whose numbers go into the list, or nothing if it is empty or a comment.
+/// What a line says: a command, whose numbers go into the list, or nothing if it is empty or a comment.
 pub fn said(line: &[u8], list: &mut Numbers) -> Result<Option<Command>, Malformed>
     ensures { IfOk result (λ said. IfSome said InRange) }
 {
@@ -53,7 +54,7 @@ pub fn said(line: &[u8], list: &mut Numbers) -> Result<Option<Command>, Malforme
     }
 }
 
-// Where the line that begins at a place ends.
+/// Where the line that begins at a place ends: in a whole script, as its definition has it, so a place stands beside the bytes.
 pub fn line_end(script: &[u8], at: usize) -> usize
     ensures place { result ≡ line_end script.now at }
     ensures bounds { (at ≤ result) × (result ≤ max at (length script.now)) }
@@ -64,8 +65,9 @@ pub fn line_end(script: &[u8], at: usize) -> usize
     }
 }
 
-// The lines of a script, each without its end.
-#[derive(Drop)]
+/// The lines of a script, each without its end. No `split` at line feeds: it gives one empty piece more after the last end, and which lines there are, `NextLine`, would be promised
+/// nowhere.
+#[derive(Clone, Debug, Drop, PartialEq, Eq)]
 pub struct Lines<'a>(pub &'a [u8]);
 
 impl<'a> Iterator for Lines<'a> {
@@ -85,7 +87,7 @@ impl<'a> Iterator for Lines<'a> {
     }
 }
 
-// The number of the first malformed line, counted from 1.
+/// The number of the first malformed line, counted from 1.
 pub fn first_malformed(script: &[u8], list: &mut Numbers) -> Option<usize>
     ensures { Numbered script.now result }
 {

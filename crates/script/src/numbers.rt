@@ -1,4 +1,4 @@
-// The numbers of a line, from their digits.
+//! The numbers of a line, from their digits.
 use commands::Malformed;
 use items::Numbers;
 use std::str;
@@ -9,9 +9,7 @@ fn number(text: &[u8]) -> Result<i64, Malformed> {
     if digits.len() > 10 || !digits.iter().all(u8::is_ascii_digit) {
         return Err(Malformed);
     }
-    let Ok(text) = str::from_utf8(text) else {
-        return Err(Malformed);
-    };
+    let text = str::from_utf8(text).map_err(|_| Malformed)?;
     text.parse().map_err(|_| Malformed)
 }
 
@@ -22,9 +20,7 @@ pub(crate) fn read_numbers(text: &[u8], list: &mut Numbers) -> Result<(), Malfor
         [] => Ok(()),
         [b' ', numbers @ ..] => {
             for n in numbers.split(|b| *b == b' ') {
-                if list.try_push(number(n)?).is_err() {
-                    return Err(Malformed);
-                }
+                list.try_push(number(n)?).map_err(|_| Malformed)?;
             }
             Ok(())
         }

@@ -1,4 +1,4 @@
-// The covered question.
+//! The covered question.
 ghost use Rattle.std.specs.Prelude.{◌≡◌, ◌*◌, ◌^◌, ◌≤◌};
 ghost use Rattle.settings.specs.Settings.{weight_at};
 ghost use Rattle.settings.specs.Covered.{positive_part, positives, is_covered};
@@ -13,7 +13,7 @@ fn positive_part(w: i32) -> u64
 }
 
 impl Settings {
-    // The weight of sample n, counted from 1.
+    /// The weight of sample n, counted from 1; 0 where there is no such sample: it can't fail, and a 0 adds nothing.
     pub fn weight(self, n: usize) -> i32
         ensures { result ≡ weight_at self n }
     {
@@ -37,15 +37,14 @@ impl Settings {
         total
     }
 
-    // Whether no readings at or below the threshold make a sum of 32,752 * 2^r or more.
+    /// Whether no readings at or below the threshold make a sum of 32,752 * 2^r or more.
     pub fn is_covered(self) -> bool
         ensures { result ≡ is_covered self }
     {
-        // `as` only widens here: `From` says no more.
         let r = self.truncation;
-        let total = self.positive_total(self.samples as usize);
-        let reach = 128 + total * self.threshold as u64;
+        let total = self.positive_total(self.samples.into());
+        let reach = 128 + total * u64::from(self.threshold);
         // 32,752 * 2^49 is above every reach.
-        if r < 49 { reach < 32752 << r } else { true }
+        r >= 49 || reach < 32752 << r
     }
 }

@@ -1,11 +1,11 @@
 -- The sides that Open takes, part by part.
 --     Side, Sides, sides_parts     each of them, and how many pixels they make
---     times_taken, area_few        what the code works out of the sides
+--     area_few                     the bound of what the code works out of the sides
 use Prim.Native.Nat.{ℕ, ◌*◌, ◌%◌, ◌≤◌, ◌<◌}
-use mathlib.Core.Bool.{Bool, true, false, cond, not, ◌&&◌}
-use mathlib.Core.Path.{◌≡◌, refl}
+use mathlib.Core.Bool.{Bool, true, not, ◌&&◌}
+use mathlib.Core.Path.{◌≡◌}
 use borrow.Author.Tests.{leb-true, eqb-false, not-true}
-use native.Mathlib.Nat.{mul-le-mul, mul-pos, mul-zero}
+use native.Mathlib.Nat.{mul-le-mul, mul-pos}
 use native.Mathlib.Omega.{arith}
 use lib.Dec.{leb, eqb}
 use Rattle.laws.proofs.Tests.{cases, and_true}
@@ -46,12 +46,5 @@ sides_parts w h binned e =
     }
 
 module _ (w h : ℕ) (binned : Bool) where
-  pub times_taken : (n m : ℕ) → n * of_sides w h binned m ≡ of_sides w h binned (n * m)
-  times_taken n m = by (sides_taken w h binned)
-    where
-      by : (t : Bool) → n * cond t m 0 ≡ cond t (n * m) 0
-      by true = refl
-      by false = mul-zero n
-
   pub area_few : of_sides w h binned (w * h) ≤ 1048576
   area_few = cases (sides_taken w h binned) (λ e. rw e (sides_parts w h binned e).few) (λ e. rw e (omega arith))

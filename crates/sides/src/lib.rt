@@ -1,4 +1,4 @@
-// The sides of a board: which ones Open takes, and how many pixels they make.
+//! The sides of a board: which ones Open takes, and how many pixels they make.
 #![tactic(auto)]
 
 ghost use Rattle.std.specs.Prelude.{◌≡◌, ◌*◌};
@@ -16,10 +16,10 @@ impl Sides {
     fn takes(self, n: usize) -> bool
         ensures { result ≡ side_taken self.binned n }
     {
-        1 <= n && n <= 1024 && !(self.binned && n % 2 == 1)
+        (1..=1024).contains(&n) && !(self.binned && n % 2 == 1)
     }
 
-    // Whether Open takes these sides.
+    /// Whether Open takes these sides.
     #[tactic(auto, unfolding(crate::specs::Sides::sides_taken))]
     pub fn are_taken(self) -> bool
         ensures { result ≡ sides_taken self.width self.height self.binned }
@@ -27,7 +27,7 @@ impl Sides {
         self.takes(self.width) && self.takes(self.height)
     }
 
-    // How many pixels a board of these sides has; 0 for sides that Open doesn't take.
+    /// How many pixels a board of these sides has; 0 for sides that Open doesn't take. It can't fail, and no sound board meets the 0: so no `Option`.
     pub fn area(self) -> usize
         ensures { result ≡ of_sides self.width self.height self.binned (self.width * self.height) }
     {

@@ -1,4 +1,4 @@
-// What one reading does to one entry. Both stand in lent slices of plain numbers, so their ranges stand in each contract.
+//! What one reading does to one entry. Their ranges stand in each contract: both lie in lent slices of plain numbers, and a type for one would be made anew at each element.
 #![tactic(auto)]
 
 ghost use Rattle.std.specs.Prelude.{◌≡◌, true, cond, ◌<◌, pos, ◌*ℤ◌};
@@ -9,7 +9,7 @@ ghost use Rattle.step.specs.Step.{SampleInRange, is_above, pedestal_or_stored, s
 
 use entries::MARK;
 
-// A sample of a ramp: its number, counted from 1, its weight, and the threshold that its readings are held against.
+/// A sample of a ramp: its number, counted from 1, its weight, and the threshold that its readings are held against.
 #[derive(Clone, Copy, Debug, PartialEq, Eq)]
 pub struct Sample {
     pub n: usize,
@@ -17,12 +17,12 @@ pub struct Sample {
     pub threshold: u16,
 }
 
-// A reading as a signed number of 16 bits, which are cheaper to multiply and to compare. It is below 32,768.
-fn signed(reading: u16) -> i16
-    requires { reading_in_range reading ≡ true }
-    ensures { result ≡ pos reading }
+// A number below 32,768 as a signed one of 16 bits, which are cheaper to multiply and to compare.
+fn signed(n: u16) -> i16
+    requires { n < 32768 }
+    ensures { result ≡ pos n }
 {
-    reading as i16
+    n as i16
 }
 
 // Multiply: weight * reading. The magnitude, in eight bits, is multiplied and then takes the sign, so that the compiler sees two small numbers and makes a loop for
@@ -32,7 +32,7 @@ fn multiply(weight: i32, reading: u16) -> i32
     requires reading_value { reading_in_range reading ≡ true }
     ensures { result ≡ weight *ℤ pos reading }
 {
-    let size = weight.unsigned_abs() as u8 as i32 * signed(reading) as i32;
+    let size = i32::from(weight.unsigned_abs() as u8) * i32::from(signed(reading));
     if weight < 0 { -size } else { size }
 }
 
@@ -43,16 +43,16 @@ fn pedestal_or_stored(n: usize, stored: i32) -> i32
     if n == 1 { 128 } else { stored }
 }
 
-// Whether a reading is above the threshold, which is below 32,768 too.
+// Whether a reading is above the threshold.
 fn is_above(reading: u16, threshold: u16) -> bool
     requires reading_value { reading_in_range reading ≡ true }
     requires threshold_value { threshold_in_range threshold ≡ true }
     ensures { result ≡ is_above threshold reading }
 {
-    signed(reading) > threshold as i16
+    signed(reading) > signed(threshold)
 }
 
-// One of two numbers, both at hand: no work hangs on the test.
+// One of two numbers, both at hand: no step hangs on the test.
 fn pick(test: bool, yes: i32, no: i32) -> i32
     ensures { result ≡ cond test yes no }
 {
@@ -66,7 +66,7 @@ fn sum_or_mark(addend: i32, above: bool, mark: i32, sum: i32) -> i32
     pick(addend > MARK, addend, pick(above, mark, sum))
 }
 
-// One reading of a sample, in the order of section 2.3 of the Description: multiply, add 128 or the stored sum, store.
+/// One reading of a sample, in the order of section 2.3 of the Description: multiply, add 128 or the stored sum, store.
 pub fn accumulate(stored: &mut i32, reading: u16, sample: Sample)
     requires sample_value { SampleInRange sample }
     requires reading_value { reading_in_range reading ≡ true }
@@ -77,10 +77,7 @@ pub fn accumulate(stored: &mut i32, reading: u16, sample: Sample)
     let product = multiply(sample.weight, reading);
     let addend = pedestal_or_stored(n, *stored);
     let sum = product + addend;
-    *stored = sum_or_mark(
-        addend,
-        is_above(reading, sample.threshold),
-        MARK + n as i32,
-        sum,
-    );
+    // n is at most nine; the library has no `From` of a `usize` for an `i32`.
+    let mark = MARK + n as i32;
+    *stored = sum_or_mark(addend, is_above(reading, sample.threshold), mark, sum);
 }

@@ -1,4 +1,4 @@
-// Feed and Read out alone: each on the board that Open, Update and Start give, with some readings fed.
+//! Feed and Read out alone: each on the board that Open, Update and Start give, with some readings fed. Two functions: after their first line they share nothing.
 #![tactic(auto)]
 
 ghost use Rattle.std.specs.Prelude.{◌≡◌};
@@ -10,7 +10,7 @@ use feed::feed;
 use read_out::read_out;
 use sides::Sides;
 
-// Feed, with `fed` readings of the ramp already fed: the first refusal of Open, Update, Start and Feed.
+/// Feed, with `fed` readings of the ramp already fed: the first refusal of Open, Update, Start and Feed.
 pub fn feed_of(
     sides: Sides,
     record: &[u8],
@@ -26,7 +26,7 @@ pub fn feed_of(
     feed(&mut board, readings, sums)
 }
 
-// Read out, with all readings of the ramp fed: the first refusal of Open, Update, Start and Read out.
+/// Read out, with all readings of the ramp fed: the first refusal of Open, Update, Start and Read out.
 pub fn read_out_of(sides: Sides, record: &[u8], sums: &[i32], words: &mut [u16]) -> Answer
     ensures answer { result ≡ read_out_answer sides.width sides.height sides.binned «record».now sums.now words.old }
     ensures words { words.new ≡ read_out_leaves sides.width sides.height sides.binned «record».now sums.now words.old }

@@ -18,8 +18,7 @@ use Rattle.std.specs.Prelude.{None}
 use Rattle.checks.specs.Search.{first_place}
 use Rattle.readings.specs.Readings.{reading_in_range}
 use Rattle.entries.specs.Possible.{possible}
-use Rattle.written.specs.Written.{samples_written}
-use Rattle.written.specs.Written.{not_possible_at}
+use Rattle.written.specs.Written.{samples_written, not_possible_at}
 use Rattle.written.proofs.Places.{same_sample, next}
 use Rattle.written.proofs.Intervals.{Ready, ready_found}
 use Rattle.sums.proofs.Agrees.{Agrees, undamaged}

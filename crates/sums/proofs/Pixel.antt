@@ -5,11 +5,12 @@
 --     entry_sample        it is marked with the first sample over the threshold, if there is one
 use Prim.Native.Nat.{ℕ, zero, suc, ◌≤◌, ◌<◌}
 use mathlib.Core.Bool.{Bool, true, false, cond}
-use mathlib.Core.Option.{Option, none, some}
+use Rattle.std.specs.Prelude.{Option, Some, None}
+use Rattle.std.specs.Option.{option_or}
 use mathlib.Core.Path.{◌≡◌, refl, ◌∙◌}
 use native.Mathlib.Omega.{arith}
 use lib.IntN.{ℤ, pos, ◌+ℤ◌, +ℤ_assoc, +ℤ_comm}
-use Rattle.laws.specs.Numbers.{or_else, first_of, sum_to}
+use Rattle.laws.specs.Numbers.{first_of, sum_to}
 use Rattle.laws.proofs.Ints.{not_le}
 use Rattle.laws.proofs.Firsts.{Nowhere, Says, first_says, first_same, sum_same}
 use Rattle.settings.specs.declared.Settings.{Settings}
@@ -34,8 +35,8 @@ module _ (s : Settings) (r : InRange s) (x : ℕ → ℕ) where
   entry_sample k = by (first_over s k x) (first_says over k)
     where
       by : (o : Option ℕ) → Says over k o → sample_of (marked_by o (exact_sum s k x)) ≡ o
-      by (some n) f = sample_is n f.low
-      by none f = sample_none (exact_sum s k x) (unmarked k f)
+      by (Some n) f = sample_is n f.low
+      by None f = sample_none (exact_sum s k x) (unmarked k f)
 
   next_entry : (k : ℕ) → sum_or_mark (entry_after s k x) (over (suc k)) (mark (suc k)) (part s x (suc k) +ℤ entry_after s k x) ≡ entry_after s (suc k) x
   unfolding first_of sum_to
@@ -44,15 +45,15 @@ module _ (s : Settings) (r : InRange s) (x : ℕ → ℕ) where
       z : ℤ
       z = exact_sum s k x
 
-      last : (b : Bool) → cond b (mark (suc k)) (part s x (suc k) +ℤ z) ≡ marked_by (cond b (some (suc k)) none) (pos 128 +ℤ (sum_to k (part s x) +ℤ part s x (suc k)))
+      last : (b : Bool) → cond b (mark (suc k)) (part s x (suc k) +ℤ z) ≡ marked_by (cond b (Some (suc k)) None) (pos 128 +ℤ (sum_to k (part s x) +ℤ part s x (suc k)))
       last true = refl
       last false = +ℤ_comm (part s x (suc k)) z ∙ +ℤ_assoc (pos 128) (sum_to k (part s x)) (part s x (suc k))
 
       by : (o : Option ℕ) → Says over k o
           → sum_or_mark (marked_by o z) (over (suc k)) (mark (suc k)) (part s x (suc k) +ℤ marked_by o z)
-          ≡ marked_by (or_else o (cond (over (suc k)) (some (suc k)) none)) (pos 128 +ℤ (sum_to k (part s x) +ℤ part s x (suc k)))
-      by (some n) f = rw (is_marked n f.low)
-      by none f = rw (unmarked k f) (last (over (suc k)))
+          ≡ marked_by (option_or o (cond (over (suc k)) (Some (suc k)) None)) (pos 128 +ℤ (sum_to k (part s x) +ℤ part s x (suc k)))
+      by (Some n) f = rw (is_marked n f.low)
+      by None f = rw (unmarked k f) (last (over (suc k)))
 
   pub entry_step : (k : ℕ) (e : ℤ) → (1 ≤ k → e ≡ entry_after s k x) → step s (suc k) e (x (suc k)) ≡ entry_after s (suc k) x
   unfolding step first_of sum_to

@@ -1,6 +1,5 @@
 -- What a pixel's readings come to. A pixel's readings are given by sample, counted from 1.
-use Rattle.std.specs.Prelude.{ℕ, zero, suc, ◌+◌, ◌*◌, List, ℤ, pos, ◌+ℤ◌, ◌*ℤ◌, get_or}
-use Rattle.std.proofs.Math.Option.{Option, none, some}
+use Rattle.std.specs.Prelude.{ℕ, zero, suc, ◌+◌, ◌*◌, List, ℤ, pos, ◌+ℤ◌, ◌*ℤ◌, get_or, Option, Some, None}
 use Rattle.laws.specs.Numbers.{sum_to, first_of}
 use Rattle.settings.specs.declared.Settings.{Settings}
 use Rattle.settings.specs.Settings.{weight_at}
@@ -23,8 +22,8 @@ first_over s k reading = first_of k (λ n. over_it s n (reading n))
 
 -- the mark of the first sample over the threshold, or a sum
 abbrev pub marked_by : Option ℕ → ℤ → ℤ
-marked_by (some n) sum = mark n
-marked_by none sum = sum
+marked_by (Some n) sum = mark n
+marked_by None sum = sum
 
 -- the entry of a pixel after k samples
 abbrev pub entry_after : Settings → ℕ → (ℕ → ℕ) → ℤ

@@ -1,2 +1,2 @@
-// No code: what readings do to the sums, the exact sums, and their laws.
+//! No code: what readings do to the sums, the exact sums, and their laws.
 #![tactic(auto)]

@@ -1,5 +1,6 @@
-// Text at the end of a list of bytes: bytes, numbers, refusals, and what a word means.
-// No Display: its writer may fail, and no contract says that one with room doesn't. These can't fail.
+//! Text at the end of a list of bytes: bytes, numbers, refusals, and what a word means.
+//! No `Display`: its writer may fail, and no contract says that one with room doesn't. These can't fail:
+//! there is room, and each contract says for how many bytes.
 #![tactic(auto)]
 
 ghost use Rattle.std.specs.Prelude.{◌≡◌, ◌++◌, ◌+◌, ◌≤◌, T, length};
@@ -13,17 +14,16 @@ use arrayvec::ArrayVec;
 use checks::Refusal;
 use meaning::WordRead;
 
-// Bytes as they are.
+/// Bytes as they are.
 pub fn put<const ROOM: usize>(out: &mut ArrayVec<u8, ROOM>, bytes: &[u8])
     requires { array_vec_len out.old + length bytes.now ≤ ROOM }
     ensures { out.new.items ≡ out.old.items ++ bytes.now }
 {
-    for byte in bytes {
-        out.push(*byte);
-    }
+    out.try_extend_from_slice(bytes).unwrap();
 }
 
-// A number in decimal.
+/// A number in decimal.
+#[tactic(auto, using(crate::proofs::Decimals::is_decimal, crate::proofs::Decimals::few))]
 pub fn put_number<const ROOM: usize>(out: &mut ArrayVec<u8, ROOM>, n: u64)
     requires { array_vec_len out.old + 20 ≤ ROOM }
     ensures end { array_vec_len out.new ≤ array_vec_len out.old + 20 }
@@ -54,7 +54,7 @@ fn put_limits<const ROOM: usize>(out: &mut ArrayVec<u8, ROOM>, low: f64, high: f
     put_number(out, whole(high));
 }
 
-// A refusal, by its number.
+/// A refusal, by its number.
 pub fn put_refusal<const ROOM: usize>(out: &mut ArrayVec<u8, ROOM>, refusal: Refusal)
     requires { array_vec_len out.old + 28 ≤ ROOM }
     ensures end { array_vec_len out.new ≤ array_vec_len out.old + 28 }
@@ -64,7 +64,7 @@ pub fn put_refusal<const ROOM: usize>(out: &mut ArrayVec<u8, ROOM>, refusal: Ref
     put_number(out, u64::from(refusal.reason.number()));
 }
 
-// What a word means, or why it was not read.
+/// What a word means, or why it was not read.
 pub fn put_meaning<const ROOM: usize>(out: &mut ArrayVec<u8, ROOM>, read: Result<WordRead, Refusal>)
     requires room { array_vec_len out.old + 42 ≤ ROOM }
     requires whole_limits { WholeLimits read }

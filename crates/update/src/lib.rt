@@ -1,4 +1,4 @@
-// Update: the checks of a record, and the settings that result.
+//! Update: the checks of a record, and the settings that result.
 #![tactic(auto)]
 
 ghost use Rattle.std.specs.Prelude.{◌≡◌};
@@ -10,7 +10,7 @@ use fields::decode;
 use record::{FIELDS, end_of, pair};
 use settings::Settings;
 
-// Update: the record is taken whole, or refused and nothing changes.
+/// Update: the record is taken whole, or refused and nothing changes.
 pub fn update(before: Settings, bytes: &[u8]) -> Result<Settings, Refusal>
     ensures { result ≡ or_refused (update_of before bytes.now).answer (update_of before bytes.now).settings }
 {

@@ -1,4 +1,4 @@
-// A whole frame in one call.
+//! A whole frame in one call.
 #![tactic(auto)]
 
 ghost use Rattle.std.specs.Prelude.{◌≡◌};
@@ -24,7 +24,7 @@ fn check(board: Board, readings: &[u16], sums: &[i32], words: &[u16]) -> Answer
     refuse_when(words.len() != word_count(board), Reason::WordsLength)
 }
 
-// Open, update, start, feed and read out. Every check comes first, and once: nothing is written unless all five are taken.
+/// Open, update, start, feed and read out. Every check comes first, and once: nothing is written unless all five are taken.
 pub fn frame_of(
     sides: Sides,
     record: &[u8],

@@ -3,7 +3,7 @@
 --     no_sample, none_both               an entry, or two, with no sample
 use Prim.Native.Nat.{ℕ, min}
 use mathlib.Core.Bool.{Bool, true, false}
-use mathlib.Core.Option.{Option, none, some}
+use Rattle.std.specs.Prelude.{Option, Some, None}
 use mathlib.Core.Path.{◌≡◌, refl, sym, ap, ◌∙◌}
 use native.Mathlib.Omega.{arith}
 use lib.IntN.{ℤ, pos, neg_ℤ, ◌-ℤ◌}
@@ -26,17 +26,17 @@ pub sample_range : (e : ℤ) → entry_in_range e ≡ true → marked e ≡ true
 sample_range e h t = by_kind e h (λ n l m q. omega (signed, ap up q, ap dn q, sum e (neg_ℤ (pos 1073741824)))) (λ u s. clash (sym t ∙ u))
 
 abbrev empty : Option ℕ → Bool
-empty none = true
-empty (some n) = false
+empty None = true
+empty (Some n) = false
 
-not_some : {A : Type 0} (n : ℕ) → some n ≡ none → A
+not_some : {A : Type 0} (n : ℕ) → Some n ≡ None → A
 not_some n e = clash (sym (ap empty e))
 
 -- an entry with no sample is a sum
-pub no_sample : (e : ℤ) → entry_in_range e ≡ true → sample_of e ≡ none → (marked e ≡ false) × Small e
+pub no_sample : (e : ℤ) → entry_in_range e ≡ true → sample_of e ≡ None → (marked e ≡ false) × Small e
 no_sample e h z = by_kind e h (λ n l m q. not_some n (sym (sample_is n l) ∙ rw q at z)) (λ u s. (u, s))
 
-pub none_both : (o p : Option ℕ) → smaller o p ≡ none → (o ≡ none) × (p ≡ none)
-none_both none p e = (refl, e)
-none_both (some m) none e = not_some m e
-none_both (some m) (some n) e = not_some (min m n) e
+pub none_both : (o p : Option ℕ) → smaller o p ≡ None → (o ≡ None) × (p ≡ None)
+none_both None p e = (refl, e)
+none_both (Some m) None e = not_some m e
+none_both (Some m) (Some n) e = not_some (min m n) e

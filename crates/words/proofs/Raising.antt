@@ -6,7 +6,7 @@
 use Prim.Native.Nat.{ℕ, ◌+◌, ◌≤◌, ◌<◌}
 use mathlib.Core.Bool.{true, cond}
 use mathlib.Core.Logic.{◌⊎◌, inl, inr}
-use mathlib.Core.Option.{Option, none, some}
+use Rattle.std.specs.Prelude.{Option, Some, None}
 use mathlib.Core.Path.{◌≡◌, ◌∙◌}
 use native.Mathlib.Omega.{arith}
 use lib.IntN.{ℤ, pos, neg_ℤ, ◌+ℤ◌, ◌-ℤ◌}
@@ -24,8 +24,8 @@ use Rattle.entries.proofs.Range.{Small, by_kind}
 use Rattle.words.proofs.Entries.{no_sample}
 
 abbrev pub Raised : Option ℕ → ℤ → Type 0
-Raised none z = dn z ≤ up z
-Raised (some n) z = (n ≤ 9) × (up z + 2147483648 ≡ dn z + n)
+Raised None z = dn z ≤ up z
+Raised (Some n) z = (n ≤ 9) × (up z + 2147483648 ≡ dn z + n)
 
 -- as a machine's sum
 pub raise : (e : ℤ) → entry_in_range e ≡ true → int_wrap w32 (e +ℤ pos 1073741824) ≡ cond (marked e) (e -ℤ pos 3221225472) (e +ℤ pos 1073741824)
@@ -44,10 +44,10 @@ entry_raised e z h told =
     (λ u s. let f = rw u at told in rw (sample_none e u, f) (omega (signed, sum e (pos 1073741824))))
 
 pub lower : (o p : Option ℕ) (a b z : ℤ) → z ≡ int_min a b → Raised o a → Raised p b → Raised (smaller o p) z
-lower none none a b z e f g = cases (lt_z b a) (λ t. rw (e, t) g) (λ t. rw (e, t) f)
-lower none (some n) a b z e f g = cases (lt_z b a) (λ t. rw (e, t) g) (λ t. absurd (omega signed))
-lower (some m) none a b z e f g = cases (lt_z b a) (λ t. absurd (omega signed)) (λ t. rw (e, t) f)
-lower (some m) (some n) a b z e f g = cases (lt_z b a) (λ t. rw (e, t) (omega signed)) (λ t. rw (e, t) (omega signed))
+lower None None a b z e f g = cases (lt_z b a) (λ t. rw (e, t) g) (λ t. rw (e, t) f)
+lower None (Some n) a b z e f g = cases (lt_z b a) (λ t. rw (e, t) g) (λ t. absurd (omega signed))
+lower (Some m) None a b z e f g = cases (lt_z b a) (λ t. absurd (omega signed)) (λ t. rw (e, t) f)
+lower (Some m) (Some n) a b z e f g = cases (lt_z b a) (λ t. rw (e, t) (omega signed)) (λ t. rw (e, t) (omega signed))
 
 -- a number and 2^31, modulo 2^32
 abbrev Half : ℤ → ℤ → Type 0
@@ -87,7 +87,7 @@ halves x y v w a b (inr f) (inr g) =
 abbrev pub Up : ℤ → ℤ → Type 0
 Up e z = Small e × (z ≡ e +ℤ pos 1073741824)
 
-pub sum_raised : (e z : ℤ) → entry_in_range e ≡ true → z ≡ cond (marked e) (e -ℤ pos 3221225472) (e +ℤ pos 1073741824) → sample_of e ≡ none → Up e z
+pub sum_raised : (e z : ℤ) → entry_in_range e ≡ true → z ≡ cond (marked e) (e -ℤ pos 3221225472) (e +ℤ pos 1073741824) → sample_of e ≡ None → Up e z
 sum_raised e z h told o = let n = no_sample e h o in (n.1, rw n.0 at told)
 
 pub whole : (a b c d p q s t : ℤ) → Up a p → Up b q → Up c s → Up d t

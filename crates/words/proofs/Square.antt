@@ -3,7 +3,7 @@
 --     added              their total, where none is marked
 use mathlib.Core.Bool.{true, cond}
 use mathlib.Core.List.{[], ◌∷◌}
-use mathlib.Core.Option.{none}
+use Rattle.std.specs.Prelude.{None}
 use mathlib.Core.Path.{◌≡◌, ◌∙◌}
 use lib.IntN.{ℤ, pos, ◌+ℤ◌, ◌-ℤ◌}
 use mir.Syntax.{w32}
@@ -26,7 +26,7 @@ module _ (a b c d p q s t : ℤ)
       (lower (sample_of a) (sample_of b) p q x ix (entry_raised a p h.0 ip) (entry_raised b q h.1 iq))
       (lower (sample_of c) (sample_of d) s t y iy (entry_raised c s k.0 is) (entry_raised d t k.1 it)))
 
-  pub added : smallest_mark (a ∷ b ∷ c ∷ d ∷ []) ≡ none → int_wrap w32 (int_wrap w32 (p +ℤ q) +ℤ int_wrap w32 (s +ℤ t)) ≡ a +ℤ b +ℤ (c +ℤ d)
+  pub added : smallest_mark (a ∷ b ∷ c ∷ d ∷ []) ≡ None → int_wrap w32 (int_wrap w32 (p +ℤ q) +ℤ int_wrap w32 (s +ℤ t)) ≡ a +ℤ b +ℤ (c +ℤ d)
   added o =
       let n = none_both _ _ (by_pairs a b c d ∙ o) in
       let m = none_both _ _ n.0 in

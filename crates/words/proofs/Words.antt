@@ -5,7 +5,7 @@
 use Prim.Native.Nat.{ℕ, suc, ◌+◌, ◌-◌, ◌*◌, ◌/◌, ◌%◌, ◌^◌, ◌≤◌, ◌<◌}
 use mathlib.Core.Bool.{Bool, true, false, cond}
 use mathlib.Core.List.{List, [], ◌∷◌}
-use mathlib.Core.Option.{Option, none, some}
+use Rattle.std.specs.Prelude.{Option, Some, None}
 use mathlib.Core.Path.{◌≡◌, refl, ap, ◌∙◌}
 use native.Mathlib.Nat.{mod-eq_of_lt, mod-lt, lt_of_lt_of_le, one-mul, mul_comm}
 use native.Mathlib.Omega.{arith}
@@ -73,15 +73,15 @@ pixel e r =
 
 -- ---- a square
 
-smaller_none : (o : Option ℕ) → smaller o none ≡ o
-smaller_none none = refl
-smaller_none (some n) = refl
+smaller_none : (o : Option ℕ) → smaller o None ≡ o
+smaller_none None = refl
+smaller_none (Some n) = refl
 
 smaller_assoc : (o p q : Option ℕ) → smaller (smaller o p) q ≡ smaller o (smaller p q)
-smaller_assoc none p q = refl
-smaller_assoc (some a) none q = refl
-smaller_assoc (some a) (some b) none = refl
-smaller_assoc (some a) (some b) (some c) = ap some (omega arith)
+smaller_assoc None p q = refl
+smaller_assoc (Some a) None q = refl
+smaller_assoc (Some a) (Some b) None = refl
+smaller_assoc (Some a) (Some b) (Some c) = ap Some (omega arith)
 
 -- as the code takes it, by two and two
 pub by_pairs : (a b c d : ℤ) → smaller (smaller (sample_of a) (sample_of b)) (smaller (sample_of c) (sample_of d)) ≡ smallest_mark (a ∷ b ∷ c ∷ d ∷ [])
@@ -98,16 +98,16 @@ last_is x = masked x 4 (omega arith)
 pub last_range : (z : ℤ) → (pos 0 ≤ℤ last_bits z) × (last_bits z ≤ℤ pos 15)
 last_range z = rw (last_is (of_z w32 z)) (omega signed, omega signed)
 
-word_of_lem : (r : ℕ) (es : List ℤ) (o : Option ℕ) (z t : ℤ) → Raised o z → (o ≡ none → t ≡ total es)
+word_of_lem : (r : ℕ) (es : List ℤ) (o : Option ℕ) (z t : ℤ) → Raised o z → (o ≡ None → t ≡ total es)
     → cond (lt_z z (pos 0)) (32752 + nat_abs (last_bits z)) (cut_word (length es * 2 ^ r) t) ≡ word_by r o es
 unfolding is_negative
-word_of_lem r es none (pos m) t f h = rw (le-ltb m 0 (omega arith), h refl)
-word_of_lem r es none (negsuc m) t f h = absurd (omega arith)
-word_of_lem r es (some n) (pos m) t f h = absurd (omega arith)
-word_of_lem r es (some n) (negsuc m) t f h = rw (last_is (4294967296 - suc m)) (omega arith)
+word_of_lem r es None (pos m) t f h = rw (le-ltb m 0 (omega arith), h refl)
+word_of_lem r es None (negsuc m) t f h = absurd (omega arith)
+word_of_lem r es (Some n) (pos m) t f h = absurd (omega arith)
+word_of_lem r es (Some n) (negsuc m) t f h = rw (last_is (4294967296 - suc m)) (omega arith)
 
 pub square : (a b c d : ℤ) (r : ℕ) (z t : ℤ) → let o = smallest_mark (a ∷ b ∷ c ∷ d ∷ []) in
-    Raised o z → (o ≡ none → t ≡ a +ℤ b +ℤ (c +ℤ d))
+    Raised o z → (o ≡ None → t ≡ a +ℤ b +ℤ (c +ℤ d))
     → cond (lt_z z (pos 0)) (32752 + nat_abs (last_bits z)) (cut_word (2 ^ (r + 2)) t) ≡ word_of r (a ∷ b ∷ c ∷ d ∷ [])
 unfolding total
 square a b c d r z t f h =

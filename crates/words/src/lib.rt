@@ -1,4 +1,5 @@
-// From the entry of a pixel, or the four of a square, to the word. Entries stand in a lent slice of plain numbers, so their range stands in each contract.
+//! From the entry of a pixel, or the four of a square, to the word. The range of an entry stands in each contract: it lies in a lent slice of plain numbers, and a type
+//! for one would be made anew at each element.
 #![tactic(auto)]
 
 ghost use Rattle.std.specs.Prelude.{◌≡◌, true, cond, [], ◌∷◌, ◌+◌, ◌^◌, ◌<◌, ◌≤◌, pos, nat_abs, ◌+ℤ◌, ◌-ℤ◌, ◌≤ℤ◌};
@@ -18,7 +19,7 @@ fn raised(entry: i32) -> i32
     entry.wrapping_add(MARK)
 }
 
-// The sign is taken before anything is cut off: a negative total has ones throughout.
+// The sign is taken before anything is cut off: a negative total has ones throughout. `as` reads the 15 bits that are left, where a `TryFrom` would ask each word.
 fn cut_off(total: i32, shift: u16) -> u32
     requires { shift ≤ 5 }
     ensures { result ≡ cond (lt_z total (pos 0)) 32767 (cut_by (2 ^ shift) total) }
@@ -27,7 +28,8 @@ fn cut_off(total: i32, shift: u16) -> u32
     ((sign | total >> shift) & 32767) as u32
 }
 
-// A mark's word, or the other. The mask leaves a sample as it is, and shows the compiler that both words have 15 bits.
+// A mark's word, or the other: `marked` picks one of two numbers at hand. The mask leaves a sample as it is, and shows the compiler that both words have 15 bits; `as`
+// keeps 16 of them, where a `TryFrom` would ask each word.
 fn flagged(marked: bool, sample: i32, word: u32) -> u16
     requires pos_bound { marked ≡ true → (pos 0 ≤ℤ sample) × (sample ≤ℤ pos 15) }
     requires word_bound { word < 32768 }
@@ -41,7 +43,7 @@ fn flagged(marked: bool, sample: i32, word: u32) -> u16
     shown as u16
 }
 
-// The word of a pixel.
+/// The word of a pixel.
 pub fn pixel_word(entry: i32, truncation: u16) -> u16
     requires value { entry_in_range entry ≡ true }
     requires truncation_value { truncation_in_range truncation ≡ true }
@@ -50,7 +52,7 @@ pub fn pixel_word(entry: i32, truncation: u16) -> u16
     flagged(entry > MARK, entry - MARK, cut_off(entry, truncation))
 }
 
-// The word of a square.
+/// The word of a square.
 pub fn square_word(a: i32, b: i32, c: i32, d: i32, truncation: u16) -> u16
     requires a_value { (entry_in_range a ≡ true) × (entry_in_range b ≡ true) }
     requires c_value { (entry_in_range c ≡ true) × (entry_in_range d ≡ true) }

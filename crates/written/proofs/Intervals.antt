@@ -15,10 +15,10 @@ use lib.Dec.{leb, ltb}
 use lib.ListN.{get_or}
 use Rattle.laws.proofs.Tests.{cases}
 use Rattle.std.specs.Prelude.{None}
-use Rattle.checks.specs.Search.{or_else, first_place, shifted}
+use Rattle.std.specs.Option.{option_or}
+use Rattle.checks.specs.Search.{first_place, shifted}
 use Rattle.checks.proofs.Search.{nowhere, found_none, found_same, found_append, found_cut, else_none}
-use Rattle.written.specs.Written.{samples_written}
-use Rattle.written.specs.Written.{not_possible_at}
+use Rattle.written.specs.Written.{samples_written, not_possible_at}
 use Rattle.written.proofs.Places.{same_sample, place, next}
 
 -- The next reading of a pixel p that has had k samples is number k × m + p. A count of readings comes, from number f on.
@@ -82,12 +82,12 @@ module _ {E : Type 0} (absent : E) (test : ℕ → E → Bool) (m f count : ℕ)
   none_high : c ≡ 0 → first_place (m - q) (λ i. bad (q + i)) ≡ None
   none_high e = nowhere (λ i. bad (q + i)) (m - q) (λ i k. at_high (q + i) (omega arith) ∙ rw e)
 
-  whole : first_place m bad ≡ or_else (first_place q bad) (shifted q (first_place (m - q) (λ i. bad (q + i))))
+  whole : first_place m bad ≡ option_or (first_place q bad) (shifted q (first_place (m - q) (λ i. bad (q + i))))
   whole =
       let e : q + (m - q) ≡ m = omega (arith, here) in
       sym (ap (λ (k : ℕ). first_place k bad) e) ∙ found_append bad q (m - q)
 
-  pub written_found : 0 < c → first_place m bad ≡ or_else (first_place low (fails (c + 1))) (shifted q (first_place (high - q) (λ i. fails c (q + i))))
+  pub written_found : 0 < c → first_place m bad ≡ option_or (first_place low (fails (c + 1))) (shifted q (first_place (high - q) (λ i. fails c (q + i))))
   written_found h = whole ∙ rw (low_part, high_part h)
 
   pub written_first : c ≡ 0 → first_place m bad ≡ first_place low (fails (c + 1))

@@ -1,4 +1,4 @@
-// Check 14 of Feed: of the entries that the ramp has written and that this Feed brings a reading for, the first that isn't possible.
+//! Check 14 of Feed: of the entries that the ramp has written and that this Feed brings a reading for, the first that isn't possible.
 #![tactic(auto)]
 
 ghost use Rattle.std.specs.Prelude.{◌≡◌, not, ◌+◌, ◌*◌, ◌-◌, ◌≤◌, ◌<◌, pos, length, get_or};
@@ -9,7 +9,8 @@ ghost use Rattle.written.specs.Written.{not_possible_at};
 
 use impossible::first_impossible;
 
-// The first from `start` to `end` that isn't possible for k.
+// The first from `start` to `end` that isn't possible for k: two places and no part, since the definition asks by place in all sums. The bounds of k are those of
+// `impossible`.
 fn first_between(sums: &[i32], start: usize, end: usize, k: usize) -> Option<usize>
     requires { (start ≤ end) × (end ≤ length sums.now) × (1 ≤ k) × (k ≤ max_samples) }
     ensures { result ≡ shifted start (first_place (end - start) (λ i. not (possible_after k (get_or sums.now (start + i) (pos 0))))) }
@@ -17,7 +18,8 @@ fn first_between(sums: &[i32], start: usize, end: usize, k: usize) -> Option<usi
     first_impossible(&sums[start..end], k).map(|place| start + place)
 }
 
-// The pixels before q have had c + 1 samples, and the first of them get another reading; those from q on have had c.
+/// With c whole samples and q readings fed, the pixels before q have had c + 1 samples, and the first of them get another reading; those from q on have had c. Of the
+/// readings to come only their count is asked: that there is room for them is what the check before this one has shown, and no type's.
 pub fn first_not_possible(sums: &[i32], fed: usize, count: usize) -> Option<usize>
     requires { (0 < length sums.now) × (length sums.now ≤ 1048576) × (fed + count ≤ max_samples * length sums.now) }
     ensures { result ≡ first_place (length sums.now) (not_possible_at (pos 0) possible_after (length sums.now) fed count sums.now) }

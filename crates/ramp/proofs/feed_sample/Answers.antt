@@ -13,10 +13,10 @@ feed_part-requires-clause-sample_value c =
     let s = c.args.settings in
     let r = in_range_parts s c.requires.settings_value in record {
       number = c.requires.le_n;
-      weight = rw (back w32 c.weight-weight.result c.weight-weight.type_inv ∙ c.weight-weight.ensures) (weight_in_range_lem s r c.args.n);
+      weight = rw (back w32 c.weight.result c.weight.type_inv ∙ c.weight.ensures) (weight_in_range_lem s r c.args.n);
       threshold = le-leb s.threshold max_threshold r.threshold;
     }
 
 pub returns : goal.returns
 unfolding step
-returns c = rw (back w32 c.weight-weight.result c.weight-weight.type_inv ∙ c.weight-weight.ensures) at c.feed_part.ensures
+returns c = rw (back w32 c.weight.result c.weight.type_inv ∙ c.weight.ensures) at c.feed_part.ensures

@@ -10,26 +10,26 @@ use Rattle.report.proofs.run.Goals as goal
 
 pub put_lines-requires : goal.put_lines-requires
 put_lines-requires c =
-    let e : result_of c.args.input.now c.args.total ≡ Ok c.in-Ok.job = sym c.run.ensures ∙ c.in-Ok.is in
+    let e : result_of c.args.input.kept.now c.args.input.total ≡ Ok c.in-Ok.job = sym c.run.ensures ∙ c.in-Ok.is in
     let put_is : c.put.new.out.items ≡ header = c.put.ensures ∙ ap (λ (l : List ℕ). l ++ header) c.new-out.ensures in
     (omega arith, (some_words _ _ _ e, omega (arith, ap length put_is, c.deref.ensures.1)))
 
 pub returns-in-Ok : goal.returns-in-Ok
 returns-in-Ok c =
     let job = c.in-Ok.job in
-    let e : result_of c.args.input.now c.args.total ≡ Ok job = sym c.run.ensures ∙ c.in-Ok.is in
+    let e : result_of c.args.input.kept.now c.args.input.total ≡ Ok job = sym c.run.ensures ∙ c.in-Ok.is in
     let put_is : c.put.new.out.items ≡ header = c.put.ensures ∙ ap (λ (l : List ℕ). l ++ header) c.new-out.ensures in
     let text = rw c.deref.ensures.0 at c.put_lines.ensures.text in
     text
     ∙ ap (λ (l : List ℕ). l ++ lines_text job.columns job.truncation job.words.items (length job.words.items)) put_is
     ∙ ap result_text (sym e)
-    ∙ text_is c.args.input.now c.args.total
+    ∙ text_is c.args.input.kept.now c.args.input.total
 
 pub returns-in-Err : goal.returns-in-Err
 returns-in-Err c =
     let r = c.in-Err.refusal in
-    let e : result_of c.args.input.now c.args.total ≡ Err r = sym c.run.ensures ∙ c.in-Err.is in
+    let e : result_of c.args.input.kept.now c.args.input.total ≡ Err r = sym c.run.ensures ∙ c.in-Err.is in
     c.put-in-Err.ensures
     ∙ ap (λ (l : List ℕ). l ++ newline) (c.put_refusal.ensures.text ∙ ap (λ (l : List ℕ). l ++ refusal_text r) c.new-out.ensures)
     ∙ ap result_text (sym e)
-    ∙ text_is c.args.input.now c.args.total
+    ∙ text_is c.args.input.kept.now c.args.input.total

@@ -8,8 +8,9 @@ use native.Mathlib.Omega.{arith}
 use lib.IntN.{ℤ, pos}
 use lib.ListN.{length, get_or}
 use Rattle.std.specs.Prelude.{Option, Some, None}
+use Rattle.std.specs.Option.{option_or}
 use Rattle.std.proofs.Common.{rules}
-use Rattle.checks.specs.Search.{or_else, first_place, shifted}
+use Rattle.checks.specs.Search.{first_place, shifted}
 use Rattle.checks.proofs.Search.{found_start}
 use Rattle.entries.specs.Possible.{possible_after}
 use Rattle.written.proofs.Intervals.{written_found, written_first, written_none}
@@ -31,7 +32,7 @@ low : (l : List ℤ) (fed count end : ℕ) (r : Option ℕ) → let m = length l
 low l fed count end r e t = rw (sub-zero, e) at t ∙ found_start (fails l (fed / length l + 1)) _
 
 -- what was found, or what the closure finds
-either : (r first second : Option ℕ) → (first ≡ None → r ≡ second) → ((p : ℕ) → first ≡ Some p → r ≡ Some p) → r ≡ or_else first second
+either : (r first second : Option ℕ) → (first ≡ None → r ≡ second) → ((p : ℕ) → first ≡ Some p → r ≡ Some p) → r ≡ option_or first second
 either r (Some p) second f g = g p refl
 either r None second f g = f refl
 

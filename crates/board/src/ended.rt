@@ -1,11 +1,11 @@
-// A ramp that ends.
+//! A ramp that ends.
 ghost use Rattle.std.specs.Prelude.{◌≡◌};
 ghost use Rattle.board.specs.Board as Def;
 
 use crate::Board;
 
 impl Board {
-    // The ramp ends.
+    /// The ramp ends.
     pub fn ended(self) -> Board
         ensures { result ≡ Def.ended self }
     {
