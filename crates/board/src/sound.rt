@@ -41,7 +41,7 @@ impl Board {
         refuse_when(!self.sound(), Reason::UnsoundBoard)
     }
 
-    /// What Feed and Read out begin with: 99, 10 and 11.
+    /// The checks that Feed and Read out begin with, in their order: 99, 10 and 11.
     #[tactic(auto, unfolding(checks::specs::Checks::verdict))]
     pub fn check_ramp(self, sums: usize) -> Answer
         ensures { result ≡ verdict (ramp_checks self sums) }

@@ -1,4 +1,4 @@
-//! Feed.
+//! Feed. Buffers are lent one by one, each of a length of its own: a type of several would be made for one call.
 #![tactic(auto)]
 
 ghost use Rattle.std.specs.Prelude.{◌≡◌, true, length};

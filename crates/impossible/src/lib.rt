@@ -1,6 +1,6 @@
 //! Check 14: the first entry that isn't possible after k samples. The bounds of k stand in each contract, as in `entries::is_possible`. The passes are
-//! no twins of those in `readings`: bits there say exactly whether each reading is in range, here only that entries are near. One function for both would take what is or-ed,
-//! its law and its bound as parameters, and is no plainer.
+//! made like those of `readings`, and share no function with them: a reading is in range by one bound, which the bits of all tell; an entry is possible by a rule of k, or near
+//! by its bits, which then say no more. One function for both would take the test, its law and its bound as parameters, and is no plainer.
 #![tactic(auto)]
 
 ghost use Rattle.std.specs.Prelude.{◌≡◌, true, not, ◌&&◌, ◌+◌, ◌≤◌, pos, ◌-ℤ◌, length, get_or, ◌≤ℤ◌};

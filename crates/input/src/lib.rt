@@ -39,7 +39,7 @@ impl Input<'_> {
         6 + usize::from(byte(self.kept, 5))
     }
 
-    /// 17, then 1, then 18.
+    /// The checks of an input, in their order: 17, then 1, then 18.
     #[tactic(auto, using(crate::proofs::Checking::taken_few), unfolding(checks::specs::Checks::verdict))]
     pub fn check(self) -> Answer
         ensures { result ≡ verdict (input_checks self.entry.kept.now self.entry.total) }

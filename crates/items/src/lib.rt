@@ -25,7 +25,8 @@ pub fn item(list: &[i64], i: usize) -> i64
 }
 
 // A number as a byte, and as one of 16 bits; 0 for one out of range, as the definition has it: no `Option`, since the numbers of a command are in range before its items are
-// made. Two functions each, here and below: one by a bound of `TryFrom` and `Default` could promise no rule, since of what these give a proof knows relations alone.
+// made. Two functions each, here and below: one of any type with `TryFrom` and `Default` could promise nothing of the
+// numbers, since the library doesn't say what these give for a type that isn't named.
 fn byte(n: i64) -> u8
     ensures { result ≡ up_to 255 n }
 {
@@ -54,7 +55,7 @@ pub fn bytes_of(list: &[i64]) -> [u8; MOST]
     array::from_fn(|i| byte(item(list, i + 1)))
 }
 
-/// The items of a list, as numbers of 16 bits, or its first item each time: readings or words.
+/// The items of a list, as numbers of 16 bits, or its first item each time, as in `place`: readings or words.
 pub fn shorts_of(list: &[i64], same: bool) -> [u16; MOST]
     ensures count { 4096 ≡ length result }
     ensures items { result ≡ short_items same list.now }

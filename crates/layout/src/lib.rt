@@ -1,6 +1,6 @@
 //! The passes over a whole frame: which entries make which word. The range of r stands in each contract, here and in `words`: it is one of the settings' plain numbers, as
 //! document 01 has them. So does that of the entries: a type for one would be made anew at each element. `Readable`,
-//! what a pass asks of sides, sums and words together, is one record.
+//! what a pass asks of sides, sums and words together, is one record. Buffers are lent one by one, as in `read_out`.
 #![tactic(auto)]
 
 ghost use Rattle.std.specs.Prelude.{◌≡◌, true, false, ℕ, ◌*◌, pos, length, get_or};

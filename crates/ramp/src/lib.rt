@@ -1,4 +1,5 @@
-//! The sum of a ramp: the passes of Feed over readings and sums. The ranges of both, and of a sample's number, stand in each contract, as in `step`.
+//! The sum of a ramp: the passes of Feed over readings and sums. The ranges of both, and of a sample's number, stand in each contract, as in `step`. Buffers are lent one by one, as in
+//! `feed`.
 #![tactic(auto)]
 
 ghost use Rattle.std.specs.Prelude.{◌≡◌, true, ◌≤◌, ◌<◌, length};

@@ -1,4 +1,4 @@
-//! Read out.
+//! Read out. Buffers are lent one by one, each of a length of its own: a type of several would be made for one call.
 #![tactic(auto)]
 
 ghost use Rattle.std.specs.Prelude.{◌≡◌, true};
@@ -23,7 +23,7 @@ pub fn word_count(board: Board) -> usize
     }
 }
 
-// 15, 16 and 14 of Read out.
+// The checks of Read out itself, in their order: 15, 16 and 14.
 #[tactic(auto, using(crate::proofs::Readable::of_sound), unfolding(checks::specs::Checks::verdict))]
 fn check_output(board: Board, sums: &[i32], words: usize) -> Answer
     requires { sound board ≡ true }

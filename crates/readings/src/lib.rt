@@ -1,4 +1,4 @@
-//! The range of a reading, and check 13.
+//! The range of a reading, and check 13. Why its passes share no function with those of check 14 stands in `impossible`.
 #![tactic(auto)]
 
 ghost use Rattle.std.specs.Prelude.{◌≡◌, not, ◌&&◌, length, get_or};
@@ -11,7 +11,7 @@ use quarters::Quarters;
 /// The largest reading.
 pub const MAX_READING: u16 = 16383;
 
-// Whether each reading is in range; each pass over numbers of another type has a fold of its own, and one for all would be `fold` under another name. The largest is 2^14 - 1, so the bits of all together are at most the largest exactly where each reading is.
+// Whether each reading is in range. A pass over numbers of another type has a fold of its own: one for all would be `fold` under another name. The largest is 2^14 - 1, so the bits of all together are at most the largest exactly where each reading is.
 fn each_in_range(readings: &[u16]) -> bool
     ensures { result ≡ every reading_in_range readings.now }
 {

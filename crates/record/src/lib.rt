@@ -1,4 +1,5 @@
-//! The bytes of an update record: a map of two bytes, then the fields whose bit stands.
+//! The bytes of an update record: a map of two bytes, then the fields whose bit stands. A place stands beside the bytes, and a byte past the end is 0, as the definitions
+//! have it: they name a field by its place, and none of these functions can fail.
 #![tactic(auto)]
 
 ghost use Rattle.std.specs.Prelude.{◌≡◌, get_or};
@@ -24,7 +25,7 @@ pub fn stands(n: u16, i: usize) -> bool
     i < 16 && n >> i & 1 == 1
 }
 
-/// A byte, 0 past the end: it can't fail, as the definitions have it, which name a field by its place.
+/// A byte, 0 past the end.
 pub fn byte(bytes: &[u8], at: usize) -> u8
     ensures { result ≡ get_or bytes.now at 0 }
 {

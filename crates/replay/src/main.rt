@@ -13,7 +13,7 @@ mod show;
 // The longest script.
 const LONGEST: usize = 262144;
 
-// Room for it, and for one byte more.
+// Room for it, and for one byte more, which a script that is too long fills.
 const ROOM: usize = LONGEST + 1;
 
 // Plays the lines one after the other.

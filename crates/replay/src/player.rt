@@ -90,7 +90,7 @@ impl Player {
         writeln!(out, "taken")
     }
 
-    // The words as a frame, of the width and height that a command names.
+    // The words as a frame: a command names the width and the height, and the words stand here.
     fn words_as(&self, width: usize, height: usize) -> Frame<'_> {
         Frame {
             words: self.words.as_slice(),

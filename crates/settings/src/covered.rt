@@ -13,7 +13,7 @@ fn positive_part(w: i32) -> u64
 }
 
 impl Settings {
-    /// The weight of sample n, counted from 1; 0 where there is no such sample: it can't fail, and a 0 adds nothing.
+    /// The weight of sample n, counted from 1; 0 where there is no such sample: it can't fail, and a 0 adds nothing. One call of the library, from 1 on.
     pub fn weight(self, n: usize) -> i32
         ensures { result ≡ weight_at self n }
     {

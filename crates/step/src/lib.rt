@@ -1,4 +1,5 @@
-//! What one reading does to one entry. Their ranges stand in each contract: both lie in lent slices of plain numbers, and a type for one would be made anew at each element.
+//! What one reading does to one entry. The ranges of both, and of a weight, a threshold and a sample's number, stand in each contract: they are plain numbers of lent slices
+//! and of the settings, and a type for one would be made anew at each element.
 #![tactic(auto)]
 
 ghost use Rattle.std.specs.Prelude.{◌≡◌, true, cond, ◌<◌, pos, ◌*ℤ◌};
@@ -17,7 +18,7 @@ pub struct Sample {
     pub threshold: u16,
 }
 
-// A number below 32,768 as a signed one of 16 bits, which are cheaper to multiply and to compare.
+// A number below 32,768 as a signed one of 16 bits, which are cheaper to multiply and to compare. A `TryFrom` would ask each reading.
 fn signed(n: u16) -> i16
     requires { n < 32768 }
     ensures { result ≡ pos n }
@@ -59,7 +60,7 @@ fn pick(test: bool, yes: i32, no: i32) -> i32
     if test { yes } else { no }
 }
 
-// What is stored: a marked entry stays, a reading above the threshold stores its mark, any other stores the sum.
+// What is stored: a marked entry stays, a reading above the threshold stores its mark, any other stores the sum. `above` is a value too, and no step.
 fn sum_or_mark(addend: i32, above: bool, mark: i32, sum: i32) -> i32
     ensures { result ≡ sum_or_mark addend above mark sum }
 {

@@ -1,4 +1,5 @@
-//! Feed and Read out alone: each on the board that Open, Update and Start give, with some readings fed. Two functions: after their first line they share nothing.
+//! Feed and Read out alone: each on the board that Open, Update and Start give, with some readings fed. Two functions: after their first line they share nothing. Buffers are lent
+//! one by one, as in `feed` and `read_out`.
 #![tactic(auto)]
 
 ghost use Rattle.std.specs.Prelude.{◌≡◌};

@@ -1,4 +1,4 @@
-//! A whole frame in one call.
+//! A whole frame in one call. Buffers are lent one by one, each of a length of its own: a type of several would be made for one call.
 #![tactic(auto)]
 
 ghost use Rattle.std.specs.Prelude.{◌≡◌};

@@ -1,5 +1,5 @@
 //! From the entry of a pixel, or the four of a square, to the word. The range of an entry stands in each contract: it lies in a lent slice of plain numbers, and a type
-//! for one would be made anew at each element.
+//! for one would be made anew at each element. So does that of r, one of the settings' plain numbers.
 #![tactic(auto)]
 
 ghost use Rattle.std.specs.Prelude.{◌≡◌, true, cond, [], ◌∷◌, ◌+◌, ◌^◌, ◌<◌, ◌≤◌, pos, nat_abs, ◌+ℤ◌, ◌-ℤ◌, ◌≤ℤ◌};

@@ -19,7 +19,7 @@ fn first_between(sums: &[i32], start: usize, end: usize, k: usize) -> Option<usi
 }
 
 /// With c whole samples and q readings fed, the pixels before q have had c + 1 samples, and the first of them get another reading; those from q on have had c. Of the
-/// readings to come only their count is asked: that there is room for them is what the check before this one has shown, and no type's.
+/// readings to come only their count is asked. That the ramp wants as many is what check 12 has shown before.
 pub fn first_not_possible(sums: &[i32], fed: usize, count: usize) -> Option<usize>
     requires { (0 < length sums.now) × (length sums.now ≤ 1048576) × (fed + count ≤ max_samples * length sums.now) }
     ensures { result ≡ first_place (length sums.now) (not_possible_at (pos 0) possible_after (length sums.now) fed count sums.now) }
