@@ -7,7 +7,8 @@ use std::fmt;
 
 const STDIN_FILENO: i32 = 0;
 
-const STDOUT_FILENO: i32 = 1;
+/// Standard output, for bytes that need not be text.
+pub const STDOUT_FILENO: i32 = 1;
 
 /// Reads until the buffer is full, the input ends or a read fails, and answers how many bytes were read: they stand in front.
 pub fn read(buffer: &mut [u8]) -> usize
@@ -16,7 +17,7 @@ pub fn read(buffer: &mut [u8]) -> usize
     io::read_full(STDIN_FILENO, buffer)
 }
 
-/// Standard output. A write that fails is not told, and the next is tried.
+/// Standard output, for text. A write that fails is not told, and the next is tried.
 #[derive(Clone, Copy, Debug, PartialEq, Eq)]
 pub struct Output;
 
@@ -25,9 +26,4 @@ impl fmt::Write for Output {
         io::write_all(STDOUT_FILENO, text.as_bytes());
         Ok(())
     }
-}
-
-/// Writes bytes that need not be text.
-pub fn write(bytes: &[u8]) {
-    io::write_all(STDOUT_FILENO, bytes);
 }
