@@ -8,7 +8,8 @@
 #include <stdint.h>
 
 /* Each of the first three functions opens a board of the given sides, updates it with the record, starts a ramp, and then does what it is named for.
-   It returns 0 if all of it was taken, and else the number of the first refusal, with its place in *place.
+   It returns 0 if all of it was taken, and else the number of the first refusal, with its place in *place. docs/REFUSALS.md has the numbers, when each
+   is given, and the order.
    sums has one entry for each pixel, words one for each pixel or, binned, for each square of four.
    After a refusal sums and words are as they were. In all functions no pointer may be NULL, also where a length is 0, and no two may overlap. */
 
@@ -37,8 +38,7 @@ uint8_t ramp_read_out(size_t width, size_t height, bool binned,
 
 /* The other two look at the words of a frame, row by row, of any width and height from 1 to 1,024. Rows and columns count from 0.
    A flag is a word that reads as saturated (32,753 to 32,761) or negative (32,767).
-   They return 0 if taken, and else the number of the first refusal, whose place is always 0: 19 for a side of 0 or above 1,024; then 16 if there
-   aren't width x height words; then 19 for a place or a corner outside the frame, or a first corner past the last one in row or column.
+   They return 0 if taken, and else the number of the first refusal, 16 or 19 of docs/REFUSALS.md, whose place is always 0.
    After a refusal what the pointers point to is as it was. */
 
 /* The flag nearest to a place, by squared distance in rows and columns, the first in row order among equals.

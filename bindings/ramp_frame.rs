@@ -7,7 +7,7 @@
 //! `nearest_flag` and `count_flags` look at the words of a frame, row by row, of any width and height from 1 to 1,024. A flag is a word that reads as
 //! saturated (32,753 to 32,761) or negative (32,767). A place is a row and a column, from 0.
 
-/// Why a frame, a step of one or a question about its flags was not taken.
+/// Why a frame, a step of one or a question about its flags was not taken: docs/REFUSALS.md has the numbers, when each is given, and the order.
 #[derive(Clone, Copy, Debug, PartialEq, Eq)]
 pub struct Refusal {
     pub number: u8,
@@ -180,7 +180,7 @@ pub fn read_out(
 }
 
 /// The flag nearest to a place, by squared distance in rows and columns, the first in row order among equals; `None` if there is no flag.
-/// Refused with 19 for a side of 0 or above 1,024; then with 16 if there aren't width x height words; then with 19 for a place outside the frame.
+/// Refused with 19 for a side, 16, or 19 for the place, in this order (docs/REFUSALS.md).
 pub fn nearest_flag(
     words: &[u16],
     width: usize,
@@ -208,8 +208,7 @@ pub fn nearest_flag(
 }
 
 /// How many flags lie in the box from its first corner to its last one, both of them a row and a column, its edges counted in.
-/// Refused with 19 for a side of 0 or above 1,024; then with 16 if there aren't width x height words; then with 19 for a corner outside the frame, or
-/// a first corner past the last one in row or column.
+/// Refused with 19 for a side, 16, or 19 for the box, in this order (docs/REFUSALS.md).
 pub fn count_flags(
     words: &[u16],
     width: usize,

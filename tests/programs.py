@@ -1,7 +1,8 @@
 """Compares a program with its second program: programs.py NAME PROGRAM SEED COUNT.
 
 NAME is jig or replay, and PROGRAM the compiled one. It must print exactly what the second program prints: on the stored inputs; on every
-beginning of an example; on each malformed line alone; on a megabyte of noise of two kinds; and on COUNT random inputs, good and bad.
+beginning of an example; on each malformed line alone; on a megabyte of noise of two kinds; and on COUNT random inputs, good and bad. Then
+it is tried at its edges (edges.py).
 Prints how many agreed; the exit status is 1 if any did not.
 """
 
@@ -17,9 +18,14 @@ from typing import Iterator
 TESTS = Path(__file__).resolve().parent
 sys.path.insert(0, str(TESTS / "second"))
 
+from edges import edges  # noqa: E402
+
 MEGABYTE = 1_000_000
-EXAMPLES = {"jig": TESTS.parent / "crates" / "jig" / "stdin", "replay": TESTS / "stored" / "replay" / "1.in"}
+EXAMPLES = {"jig": TESTS.parent / "crates" / "jig" / "stdin", "replay": TESTS / "stored" / "replay" / "small_board.in"}
 LONGEST = 1_500
+# An input of whole lines, and one with more output than a small pipe takes.
+LINES = {"jig": b"\n", "replay": b"open 2 1 0\nstart\n"}
+LONG = {"jig": bytes([0, 1, 1, 0, 0, 3, 0, 8, 1]) + bytes(512), "replay": b"words 2 5 7\n" * 2_000}
 
 
 def printed_by(program: str, given: bytes) -> bytes:
@@ -59,8 +65,8 @@ def main() -> int:
         malformed = [(f"the line {line!r}", line.encode("ascii")) for line in getattr(maker, "MALFORMED", ())]
         for given_name, given in (*beginnings(name), *malformed, *noise(seed)):
             yield given_name, given, second.run(given).encode("ascii")
-        for index, (given, text) in enumerate(maker.make(seed, count), 1):
-            yield f"input {index} of seed {seed}", given, text.encode("ascii")
+        for index, (kind, given, text) in enumerate(maker.make(seed, count), 1):
+            yield f"input {index} of seed {seed} ({kind})", given, text.encode("ascii")
 
     tried = agreed = 0
     for case, given, expected in cases():
@@ -69,8 +75,11 @@ def main() -> int:
             agreed += 1
         else:
             print(f"{case} differs")
-    print(f"{agreed} of {tried} inputs of {name} agree")
-    return agreed != tried
+    wrong = [case for case, right in edges(name, program, LINES[name], LONG[name], second.run) if not right]
+    for case in wrong:
+        print(f"{case}: wrong")
+    print(f"{agreed} of {tried} inputs of {name} agree, {len(wrong)} wrong at its edges")
+    return agreed != tried or bool(wrong)
 
 
 if __name__ == "__main__":

@@ -152,3 +152,38 @@ def draw_edge_ramp(draws: Draws, width: int, height: int, r: int) -> list[int]:
             for sample, reading in zip(samples, (large, large, 30 * large - above)):
                 sample.append(reading)
     return samples[0] + samples[1] + samples[2]
+
+
+LARGEST = 9_999_999_999  # of ten digits
+SIDES = (0, 1, 2, 1_023, 1_024, 1_025, 2**32, LARGEST)
+WEIGHTS = (-16, -15, 15, 16, -(2**31), 2**31 - 1)
+THRESHOLDS = (0, 16_383, 16_384, 65_535)
+TRUNCATIONS = (0, 1, 3, 4, 65_535)
+COUNTS = (0, 1, 9, 10, 65_535)
+# Numbers at the edges of a board's parts, in the order of its line.
+SETTINGS_EDGES = (WEIGHTS,) * 9 + (THRESHOLDS, TRUNCATIONS, COUNTS)
+BOARD_EDGES = (SIDES, SIDES, (0, 1), (0, 1), (0, 1, LARGEST)) + 2 * SETTINGS_EDGES
+
+
+def draw_settings(draws: Draws) -> list[int]:
+    """Nine weights, threshold, r and N, each in its range."""
+    weights = [draws.between(-15, 15) for _ in range(9)]
+    return [*weights, draw_threshold(draws), draws.between(1, 3), draws.between(1, 9)]
+
+
+def draw_board(draws: Draws) -> list[int]:
+    """The numbers of a board, in the order of its line: half of them of a sound one."""
+    binned, running = draws.below(2), draws.below(2)
+    width, height = draws.between(1, 4), draws.between(1, 4)
+    if binned:
+        width, height = 2 * width, 2 * height
+    waiting, in_force = draw_settings(draws), draw_settings(draws)
+    most = in_force[-1] * width * height
+    fed = draws.choose((0, 1, most - 1, most, draws.below(most + 1))) if running else 0
+    if draws.chance(10):
+        fed = most + 1
+    numbers = [width, height, binned, running, fed, *waiting, *in_force]
+    for _ in range(draws.choose((0, 0, 1, 1, 2))):
+        part = draws.below(len(numbers))
+        numbers[part] = draws.choose(BOARD_EDGES[part])
+    return numbers

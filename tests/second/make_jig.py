@@ -57,13 +57,13 @@ def draw_parts(draws: Draws) -> tuple[bytes, list[int], int]:
     return head(width, height, binned, record), readings, pixels
 
 
-def good(draws: Draws) -> bytes:
+def frame(draws: Draws) -> bytes:
     """An input that makes a frame."""
     start, readings, _ = draw_parts(draws)
     return start + pack(readings)
 
 
-def edges(draws: Draws) -> bytes:
+def frame_at_the_edges(draws: Draws) -> bytes:
     """A frame of sums close around the edges of signs, words and flags."""
     width, height, binned = draw_sides(draws)
     r = draws.between(1, 3)
@@ -72,32 +72,32 @@ def edges(draws: Draws) -> bytes:
     return head(width, height, binned, record) + pack(readings)
 
 
-def short(draws: Draws) -> bytes:
+def under_six_bytes(draws: Draws) -> bytes:
     """Under six bytes."""
-    return good(draws)[: draws.below(6)]
+    return frame(draws)[: draws.below(6)]
 
 
-def bad_flag(draws: Draws) -> bytes:
+def binned_above_1(draws: Draws) -> bytes:
     """The binned byte above 1."""
-    data = bytearray(good(draws))
+    data = bytearray(frame(draws))
     data[4] = draws.choose((2, 3, 128, 255))
     return bytes(data)
 
 
-def past_end(draws: Draws) -> bytes:
+def record_past_the_end(draws: Draws) -> bytes:
     """The record runs past the end."""
     width, height, binned = draw_sides(draws)
     record = draw_record(draws) + [0] * draws.below(20)
     return head(width, height, binned, record)[: -draws.between(1, len(record))]
 
 
-def odd_bytes(draws: Draws) -> bytes:
+def odd_number_of_bytes(draws: Draws) -> bytes:
     """An odd number of bytes after the record, sometimes very many."""
     tail = bytes(draws.choose((1, 1, 1, 2_001, 40_001)))
-    return good(draws) + tail
+    return frame(draws) + tail
 
 
-def bad_sides(draws: Draws) -> bytes:
+def sides_refused(draws: Draws) -> bytes:
     """Sides that Open refuses, with whatever follows."""
     binned = draws.chance(50)
     wrong = [(0, 2), (2, 0), (0, 0), (1025, 2), (2, 1025), (65535, 65535), (1026, 2)]
@@ -108,12 +108,24 @@ def bad_sides(draws: Draws) -> bytes:
     return head(width, height, binned, record) + pack([70] * draws.below(40))
 
 
-def too_large(draws: Draws) -> bytes:
+def too_many_pixels(draws: Draws) -> bytes:
     """Sides that Open takes, of more than 1,024 pixels."""
     sides = ((1024, 2), (2, 1024), (1024, 1024), (34, 32), (32, 34), (514, 2))
     width, height = draws.choose(sides)
     record = draws.choose(([], [0, 0], [0, 255], draw_record(draws)))
     return head(width, height, draws.chance(50), record) + pack([7] * draws.below(40))
+
+
+# What is wrong with a record, by its refusal.
+BAD_RECORDS = {
+    2: "record_too_short",
+    3: "unknown_map_bit",
+    4: "record_of_another_length",
+    5: "weight_byte_out_of_range",
+    6: "threshold_out_of_range",
+    7: "truncation_out_of_range",
+    8: "sample_count_out_of_range",
+}
 
 
 def bad_record(number: int) -> Callable[[Draws], bytes]:
@@ -124,10 +136,11 @@ def bad_record(number: int) -> Callable[[Draws], bytes]:
         readings = pack([draws.below(65_536) for _ in range(draws.below(30))])
         return head(width, height, binned, draw_bad_record(draws, number)) + readings
 
+    make.__name__ = BAD_RECORDS[number]
     return make
 
 
-def too_many(draws: Draws) -> bytes:
+def too_many_readings(draws: Draws) -> bytes:
     """More readings than the ramp wants; some of them may be bad too."""
     start, readings, _ = draw_parts(draws)
     extra = draws.choose((1, 1, 1, 2, 12_000))
@@ -136,7 +149,7 @@ def too_many(draws: Draws) -> bytes:
     return start + pack(readings) + bytes(2 * extra)
 
 
-def bad_reading(draws: Draws) -> bytes:
+def reading_out_of_range(draws: Draws) -> bytes:
     """A reading above 16,383, in a full ramp or a part of one."""
     start, readings, _ = draw_parts(draws)
     if draws.chance(30):
@@ -146,7 +159,7 @@ def bad_reading(draws: Draws) -> bytes:
     return start + pack(readings)
 
 
-def too_few(draws: Draws) -> bytes:
+def too_few_readings(draws: Draws) -> bytes:
     """A ramp that still wants readings."""
     start, readings, pixels = draw_parts(draws)
     full = len(readings)
@@ -154,15 +167,15 @@ def too_few(draws: Draws) -> bytes:
     return start + pack(readings[:keep])
 
 
-def truncated(draws: Draws) -> bytes:
+def cut_short(draws: Draws) -> bytes:
     """A good input cut anywhere."""
-    data = good(draws)
+    data = frame(draws)
     return data[: draws.below(len(data))]
 
 
-def noisy(draws: Draws) -> bytes:
+def bytes_changed(draws: Draws) -> bytes:
     """A good input with a few bytes changed, most of them near the front."""
-    data = bytearray(good(draws))
+    data = bytearray(frame(draws))
     for _ in range(draws.between(1, 3)):
         reach = draws.choose((6, 16, len(data)))
         data[draws.below(min(reach, len(data)))] = draws.below(256)
@@ -176,33 +189,34 @@ def noise(draws: Draws) -> bytes:
 
 # Each kind of input with its refusal; 0 for a frame, None where it varies.
 KINDS: list[tuple[Optional[int], Callable[[Draws], bytes]]] = [
-    (0, good),
-    (17, short),
-    (0, edges),
-    (17, bad_flag),
-    (0, good),
-    (17, past_end),
-    (0, good),
-    (17, odd_bytes),
-    (1, bad_sides),
-    (18, too_large),
-    *((number, bad_record(number)) for number in range(2, 9)),
-    (0, good),
-    (12, too_many),
-    (0, edges),
-    (13, bad_reading),
-    (0, good),
-    (15, too_few),
-    (None, truncated),
-    (12, too_many),
-    (None, noisy),
-    (13, bad_reading),
+    (0, frame),
+    (17, under_six_bytes),
+    (0, frame_at_the_edges),
+    (17, binned_above_1),
+    (0, frame),
+    (17, record_past_the_end),
+    (0, frame),
+    (17, odd_number_of_bytes),
+    (1, sides_refused),
+    (18, too_many_pixels),
+    *((number, bad_record(number)) for number in BAD_RECORDS),
+    (0, frame),
+    (12, too_many_readings),
+    (0, frame_at_the_edges),
+    (13, reading_out_of_range),
+    (0, frame),
+    (15, too_few_readings),
+    (None, cut_short),
+    (12, too_many_readings),
+    (None, bytes_changed),
+    (13, reading_out_of_range),
     (None, noise),
 ]
 
 
-def make(seed: int, count: int) -> list[tuple[bytes, str]]:
-    """This many inputs with their outputs, the kinds taken in turn."""
+def make(seed: int, count: int) -> list[tuple[str, bytes, str]]:
+    """This many inputs with what they are called and their outputs, the kinds taken in turn."""
     draws = Draws(seed)
-    inputs = [KINDS[index % len(KINDS)][1](draws) for index in range(count)]
-    return [(data, jig.run(data)) for data in inputs]
+    makers = [KINDS[index % len(KINDS)][1] for index in range(count)]
+    inputs = [(maker.__name__, maker(draws)) for maker in makers]
+    return [(name, data, jig.run(data)) for name, data in inputs]

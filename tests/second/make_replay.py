@@ -31,6 +31,7 @@ from draws import (
     encode_record,
 )
 from ramp import MARK, MAX_PRODUCT, PEDESTAL, possible
+from sound_boards import SCENES, any_boards
 
 SMALL = ((1, 1), (2, 1), (1, 2), (2, 2), (3, 2), (4, 2), (5, 3), (4, 4), (6, 4))
 LARGE = ((64, 48), (64, 64), (48, 64), (1024, 4), (2, 1024), (1, 1024), (32, 32))
@@ -559,6 +560,16 @@ def refused_flags(writer: Writer) -> None:
     writer.say("count", width, height, 0, width, 0, width)
 
 
+def malformed_boards() -> list[str]:
+    """Boards with a number more or less, and with each number out of its range."""
+    good = [2, 2, 0, 0, 0, *2 * (*range(9), 5, 1, 1)]
+    lines = [good[:-1], [*good, 0]]
+    for part, limits in enumerate(replay.NUMBERS["board"]):
+        for number in (limits[0] - 1, limits[1] + 1):
+            lines.append([*good[:part], number, *good[part + 1 :]])
+    return [" ".join(["board", *map(str, line)]) for line in lines]
+
+
 # Lines that are no command, or one with numbers that it does not take.
 MALFORMED = (
     "open 2 2 2",
@@ -601,6 +612,8 @@ MALFORMED = (
     "count 1 1 0 0 0 0 0",
     "count 1 1 0 0 0 -1",
     "count 1 1 0 0 0 10000000000",
+    "board",
+    *malformed_boards(),
     "feed",
     "close",
     "start # now",
@@ -636,23 +649,36 @@ KINDS = (
     small_board,
     large_board,
     many_flags,
+    any_boards,
 )
 
 
-def make(seed: int, count: int) -> list[tuple[bytes, str]]:
-    """This many scripts with their outputs; every ninth is malformed."""
+def played(scene: Callable[[Writer], None], draws: Draws) -> bytes:
+    """The script of a scene."""
+    writer = Writer(draws)
+    writer.lines.append(f"# {scene.__name__.replace('_', ' ')}")
+    scene(writer)
+    return writer.bytes()
+
+
+def make(seed: int, count: int) -> list[tuple[str, bytes, str]]:
+    """This many scripts with what they are called and their outputs; every tenth is malformed."""
     draws = Draws(seed)
     made = []
     for index in range(count):
-        writer = Writer(draws)
         kind = index % (len(KINDS) + 1)
-        malformed = kind == len(KINDS)
-        scene = small_board if malformed else KINDS[kind]
-        writer.lines.append(f"# {scene.__name__.replace('_', ' ')}")
-        scene(writer)
-        script = spoil(draws, writer.bytes()) if malformed else writer.bytes()
-        made.append((script, replay.run(script)))
+        if kind == len(KINDS):
+            name, script = "malformed", spoil(draws, played(small_board, draws))
+        else:
+            name, script = KINDS[kind].__name__, played(KINDS[kind], draws)
+        made.append((name, script, replay.run(script)))
     return made
+
+
+def sound() -> list[tuple[str, bytes, str]]:
+    """Scripts of every operation on boards of given numbers, one for each part of a sound board."""
+    scripts = [(scene.__name__, played(scene, Draws(0))) for scene in SCENES]
+    return [(name, script, replay.run(script)) for name, script in scripts]
 
 
 def sized_board(writer: Writer, width: int, height: int, binned: int) -> None:
@@ -665,7 +691,7 @@ def sized_board(writer: Writer, width: int, height: int, binned: int) -> None:
 def tour(seed: int) -> bytes:
     """One long script with every scene, and boards from the smallest to the largest."""
     writer = Writer(Draws(seed))
-    for scene in (before_open, many_words, middle_board, large_board, many_flags):
+    for scene in (before_open, many_words, middle_board, large_board, many_flags, any_boards):
         scene(writer)
     for _ in range(8):
         small_board(writer)

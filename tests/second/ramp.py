@@ -1,13 +1,13 @@
 """The ramp board: settings, sums, words, and the checks of each operation.
 
 The board keeps a ledger: sides, binning, waiting settings, settings in force,
-whether a ramp runs, and every reading fed in it. Operations answer None when
+whether a ramp runs, and how many readings were fed in it. Operations answer None when
 taken and a Refusal when not; buffers are changed in place, only when taken.
 """
 
 from __future__ import annotations
 
-from dataclasses import dataclass, field
+from dataclasses import dataclass
 from typing import NamedTuple, Optional, Sequence, Union
 
 MAX_SIDE = 1_024
@@ -188,17 +188,12 @@ class Board:
     waiting: Settings = Settings()
     in_force: Settings = Settings()
     running: bool = False
-    readings: list[int] = field(default_factory=list)
+    fed: int = 0  # readings in the running ramp
 
     @property
     def pixels(self) -> int:
         """M: the number of pixels."""
         return self.width * self.height
-
-    @property
-    def fed(self) -> int:
-        """The number of readings fed in the running ramp."""
-        return len(self.readings)
 
     @property
     def wanted(self) -> int:
@@ -269,7 +264,7 @@ class Board:
             first, samples = self.samples_for(pixel, readings)
             if samples:
                 sums[pixel] = entry_after(entry, first, samples, self.in_force)
-        self.readings.extend(readings)
+        self.fed += len(readings)
         return None
 
     def read_out(self, sums: Sequence[int], output: list[int]) -> Optional[Refusal]:
@@ -305,7 +300,7 @@ class Board:
     def end_ramp(self) -> None:
         """No ramp, no readings; both settings stay."""
         self.running = False
-        self.readings = []
+        self.fed = 0
 
     def covered(self) -> Union[bool, Refusal]:
         """Whether the settings in force are covered."""

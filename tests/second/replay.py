@@ -23,10 +23,13 @@ U16: Range = (0, 65_535)
 BYTE: Range = (0, 255)
 I32: Range = (-(2**31), 2**31 - 1)
 ANY: Range = (0, 10**10 - 1)  # all that ten digits can say
+FLAG: Range = (0, 1)
+SETTINGS: tuple[Range, ...] = (I32,) * 9 + (U16,) * 3
 
 # The ranges of each command's numbers.
 NUMBERS: dict[str, tuple[Range, ...]] = {
-    "open": (U16, U16, (0, 1)),
+    "open": (U16, U16, FLAG),
+    "board": (ANY, ANY, FLAG, FLAG, ANY, *SETTINGS, *SETTINGS),
     "start": (),
     "fill": (COUNT, U16),
     "readout": (COUNT,),
@@ -44,7 +47,7 @@ NUMBERS: dict[str, tuple[Range, ...]] = {
 # The range of each item in the commands that carry a list.
 ITEMS: dict[str, Range] = {"update": BYTE, "feed": U16, "words": U16}
 
-BOARD_COMMANDS = ("open", "update", "start", "feed", "fill", "readout", "drop")
+BOARD_COMMANDS = ("open", "board", "update", "start", "feed", "fill", "readout", "drop")
 
 Command = tuple[str, list[int]]
 
@@ -111,12 +114,28 @@ def settings_numbers(settings: Settings) -> list[int]:
     return [*settings.weights, *last]
 
 
-def board_line(board: Board) -> str:
-    """The whole board on one line."""
+def board_numbers(board: Board) -> list[int]:
+    """All that a board is, in the order of its line."""
     numbers = [board.width, board.height, int(board.binned), int(board.running)]
     numbers += [board.fed]
-    numbers += settings_numbers(board.waiting) + settings_numbers(board.in_force)
-    return "board " + " ".join(map(str, numbers))
+    return numbers + settings_numbers(board.waiting) + settings_numbers(board.in_force)
+
+
+def settings_of(numbers: list[int]) -> Settings:
+    """The settings of nine weights, threshold, r, N."""
+    return Settings(tuple(numbers[:9]), *numbers[9:])
+
+
+def board_of(numbers: list[int]) -> Board:
+    """The board of given numbers, sound or not."""
+    width, height, binned, running, fed = numbers[:5]
+    waiting, in_force = settings_of(numbers[5:17]), settings_of(numbers[17:])
+    return Board(width, height, binned == 1, waiting, in_force, running == 1, fed)
+
+
+def board_line(board: Board) -> str:
+    """The whole board on one line."""
+    return "board " + " ".join(map(str, board_numbers(board)))
 
 
 def answer(refusal: Optional[Refusal]) -> str:
@@ -168,6 +187,9 @@ class Player:
             if isinstance(result, Refusal):
                 return result
             self.board = result
+            return None
+        if name == "board":
+            self.board = board_of(numbers)
             return None
         if name == "update":
             return self.board.update(numbers)

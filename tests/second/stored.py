@@ -7,6 +7,7 @@ stored.py --write  writes them anew
 from __future__ import annotations
 
 import sys
+from collections import Counter
 from pathlib import Path
 from typing import Iterator
 
@@ -17,7 +18,17 @@ import replay
 
 ROOT = Path(__file__).resolve().parent.parent.parent
 SEED = 1
-SCRIPTS = 18
+SCRIPTS = 20
+
+Case = tuple[str, bytes, str]
+
+
+def named(cases: list[Case]) -> Iterator[Case]:
+    """The cases with names that differ: the second of a kind has a 2 at the end of its name."""
+    seen: Counter[str] = Counter()
+    for name, given, text in cases:
+        seen[name] += 1
+        yield name if seen[name] == 1 else f"{name}_{seen[name]}", given, text
 
 
 def made() -> Iterator[tuple[Path, bytes]]:
@@ -27,10 +38,10 @@ def made() -> Iterator[tuple[Path, bytes]]:
         yield crate / "stdin", given
         yield crate / "stdout", program.run(given).encode("ascii")
     inputs = make_jig.make(SEED, len(make_jig.KINDS))
-    scripts = make_replay.make(SEED, SCRIPTS)
-    for name, cases in (("jig", inputs), ("replay", scripts)):
-        for number, (given, text) in enumerate(cases, 1):
-            stem = ROOT / "tests" / "stored" / name / str(number)
+    scripts = make_replay.make(SEED, SCRIPTS) + make_replay.sound()
+    for program, cases in (("jig", inputs), ("replay", scripts)):
+        for name, given, text in named(cases):
+            stem = ROOT / "tests" / "stored" / program / name
             yield stem.with_suffix(".in"), given
             yield stem.with_suffix(".out"), text.encode("ascii")
 

@@ -12,6 +12,7 @@ import jig
 import make_jig
 import make_replay
 import replay
+import sound_boards
 from draw_flags import (
     DENSITIES,
     FLAGS,
@@ -26,7 +27,7 @@ from draw_flags import (
     wrong_sides,
     wrong_words,
 )
-from draws import Draws, draw_bad_record, draw_ramp, draw_record, encode_record
+from draws import Draws, draw_bad_record, draw_board, draw_ramp, draw_record, encode_record
 from flags import Place, count_flags, is_flag, nearest_flag
 from ramp import (
     MARK,
@@ -197,8 +198,8 @@ class Refusals(unittest.TestCase):
             Board(2, 2, waiting=Settings(samples=0)),
             Board(2, 2, in_force=Settings(truncation=4)),
             Board(2, 2, in_force=Settings(weights=(0,) * 8 + (16,))),
-            Board(1, 1, running=False, readings=[5]),
-            Board(1, 1, running=True, readings=[5] * 10),
+            Board(1, 1, running=False, fed=1),
+            Board(1, 1, running=True, fed=10),
         ]
         for board in unsound:
             answers = [board.update([]), board.start(), board.feed([], [])]
@@ -609,7 +610,7 @@ class Jig(unittest.TestCase):
                     self.assertEqual(first, f"refused {expected}", maker.__name__)
 
     def test_all_meanings_occur(self) -> None:
-        text = "".join(output for _, output in make_jig.make(15, 200))
+        text = "".join(output for _, _, output in make_jig.make(15, 200))
         for pattern in (r"sat [1-9]\n", r"neg\n", r"none\n", r"\d\.\.\d"):
             self.assertIsNotNone(re.search(pattern, text), pattern)
 
@@ -662,7 +663,7 @@ class Replay(unittest.TestCase):
         self.assertEqual(replay.run(b"nearest 1 1 0 -1"), "malformed line 1\n")
 
     def test_made_scripts_reach_every_refusal(self) -> None:
-        self.check_refusals([script for script, _ in make_replay.make(18, 64)])
+        self.check_refusals([script for _, script, _ in make_replay.make(18, 64)])
 
     def test_the_tour_reaches_every_refusal(self) -> None:
         self.check_refusals([make_replay.tour(1)])
@@ -695,6 +696,29 @@ class Replay(unittest.TestCase):
         for name in ("nearest", "count"):
             answers |= {f"{name} refused 16", f"{name} refused 19"}
         self.assertEqual(flags, answers)
+
+    def test_given_boards(self) -> None:
+        good = [2, 2, 0, 1, 3, *range(9), 5, 1, 2, *range(-9, 0), 6, 3, 4]
+        line = " ".join(["board", *map(str, good)])
+        self.assertEqual(replay.run(line.encode("ascii")), f"taken\n{line}\n")
+        self.assertEqual(replay.board_numbers(replay.board_of(good)), good)
+        for malformed in make_replay.malformed_boards():
+            text = replay.run(malformed.encode("ascii"))
+            self.assertEqual(text, "malformed line 1\n", malformed)
+
+    def test_99_for_each_part_of_sound(self) -> None:
+        writer = make_replay.Writer(Draws(0))
+        for cases in sound_boards.PARTS:
+            for sound, parts in cases():
+                numbers = sound_boards.numbers_of(parts)
+                answers = sound_boards.every_call(writer, numbers)
+                refused = [answer == "refused 99 0" for answer in answers]
+                self.assertEqual(refused, [not sound] * len(answers), parts)
+
+    def test_drawn_boards_are_of_both_kinds(self) -> None:
+        draws = Draws(24)
+        sound = [replay.board_of(draw_board(draws)).sound() for _ in range(400)]
+        self.assertTrue(100 < sum(sound) < 300)
 
     def test_same_seed_same_files(self) -> None:
         self.assertEqual(make_replay.make(19, 16), make_replay.make(19, 16))

@@ -1,7 +1,7 @@
 -- The laws between a whole frame, its single steps and a list of calls.
 use Rattle.agreement.specs.Laws.{AgreementLaws}
 use Rattle.agreement.proofs.Parts.{whole_answer, whole_sums, whole_words}
-use Rattle.agreement.proofs.Calls.{frame_from_lem, frame_claim}
+use Rattle.agreement.proofs.Calls.{words_are, frame_claim}
 
 pub laws : AgreementLaws
 laws = record {
@@ -10,5 +10,5 @@ laws = record {
     whole_sums w h binned bytes parts sums output t full read,
     whole_words w h binned bytes parts sums output t full read,
   );
-  in_a_list = λ w h binned bytes xs sums output t. (frame_from_lem w h binned bytes xs sums output t, frame_claim w h binned bytes xs sums output t);
+  in_a_list = λ w h binned bytes xs sums output t. (words_are w h binned bytes xs sums output t, frame_claim w h binned bytes xs sums output t);
 }

@@ -13,14 +13,14 @@ use Rattle.laws.specs.Lists.{every, joined}
 use Rattle.laws.proofs.Tests.{true_and}
 use Rattle.laws.proofs.Elements.{every_append}
 use Rattle.std.specs.Prelude.{Ok}
-use Rattle.checks.specs.Checks.{first, verdict}
+use Rattle.checks.specs.Checks.{verdict}
 use Rattle.checks.proofs.Laws.{both_taken}
 use Rattle.readings.specs.Readings.{reading_in_range}
 use Rattle.step.specs.Step.{step}
 use Rattle.sums.specs.Feed.{feed_all}
 use Rattle.sums.proofs.Feeding.{feed_length, feed_append}
 use Rattle.sums.proofs.Agrees.{agrees_none}
-use Rattle.sums.proofs.Honest.{never_damaged}
+use Rattle.sums.proofs.HandedOn.{never_impossible}
 use Rattle.board.specs.declared.Board.{Board}
 use Rattle.board.specs.Board.{wanted}
 use Rattle.operations.specs.Feed.{feed_checks, feed_of, fed_sums}
@@ -28,12 +28,12 @@ use Rattle.operations.specs.ReadOut.{read_out_checks, read_out_of, read_out_word
 use Rattle.board.proofs.Soundness.{sound_parts, sides_of}
 use Rattle.operations.proofs.FeedChecked.{feed_taken, feed_passes}
 use Rattle.operations.proofs.ReadOutChecked.{read_out_taken}
-use Rattle.begin.specs.Begun.{started, begun}
+use Rattle.begin.specs.Begin.{started, begin_of}
 use Rattle.begin.proofs.Beginning.{begun_sound, started_unfed}
-use Rattle.whole_frame.specs.Chain.{fed, read_out, frame_answer, frame_sums, frame_words}
+use Rattle.whole_frame.specs.Chain.{frame_answer_on, frame_answer, frame_sums, frame_words}
 use Rattle.whole_frame.proofs.Whole.{frame_is, then_read_out, words_are}
-use Rattle.steps.proofs.Stepping.{feed_is, feed_left, read_out_is, read_out_left}
-use Rattle.steps.specs.Steps.{part_fed, all_fed, feed_answer, feed_leaves, read_out_answer, read_out_leaves}
+use Rattle.single_operations.proofs.Stepping.{feed_is, feed_left, read_out_is, read_out_left}
+use Rattle.single_operations.specs.Steps.{part_fed, all_fed, feed_answer, feed_leaves, read_out_answer, read_out_leaves}
 use Rattle.agreement.specs.Laws.{fed_in_parts, PartsTaken}
 
 module _ (w h : ℕ) (binned : Bool) (bytes : List ℕ) where
@@ -45,8 +45,8 @@ module _ (w h : ℕ) (binned : Bool) (bytes : List ℕ) where
   summed n xs sums = feed_all (pos 0) (step b.in_force) (length sums) n xs sums
 
   module _ (n : ℕ) (xs : List ℕ) (sums : List ℤ) (taken : feed_answer w h binned bytes n xs sums ≡ Ok tt) where
-    abbrev both : ((begun w h binned bytes).answer ≡ Ok tt) × ((feed_of (part_fed w h binned bytes n) xs sums).answer ≡ Ok tt)
-    both = both_taken (begun w h binned bytes).answer _ (sym (feed_is w h binned bytes n xs sums) ∙ taken)
+    abbrev both : ((begin_of w h binned bytes).answer ≡ Ok tt) × ((feed_of (part_fed w h binned bytes n) xs sums).answer ≡ Ok tt)
+    both = both_taken (begin_of w h binned bytes).answer _ (sym (feed_is w h binned bytes n xs sums) ∙ taken)
 
     part_passed : verdict (feed_checks (part_fed w h binned bytes n) xs sums) ≡ Ok tt
     unfolding feed_of
@@ -87,8 +87,8 @@ module _ (w h : ℕ) (binned : Bool) (bytes : List ℕ) where
     none : b.fed ≡ 0
     none = started_unfed w h binned bytes
 
-    abbrev both_read : ((begun w h binned bytes).answer ≡ Ok tt) × ((read_out_of all left output).answer ≡ Ok tt)
-    both_read = both_taken (begun w h binned bytes).answer _ (sym (read_out_is w h binned bytes left output) ∙ read)
+    abbrev both_read : ((begin_of w h binned bytes).answer ≡ Ok tt) × ((read_out_of all left output).answer ≡ Ok tt)
+    both_read = both_taken (begin_of w h binned bytes).answer _ (sym (read_out_is w h binned bytes left output) ∙ read)
 
     read_passed : verdict (read_out_checks all left output) ≡ Ok tt
     unfolding read_out_of
@@ -110,14 +110,15 @@ module _ (w h : ℕ) (binned : Bool) (bytes : List ℕ) where
           ramp = record { whole = whole; running = r.ramp.running; length_is = size ∙ r.ramp.length_is };
           room = omega (arith, none, full);
           readings = parts_readings parts 0 sums taken;
-          entries = rw none (never_damaged b.in_force p.in_force (length sums) some [] refl (omega arith) sums (agrees_none b.in_force p.in_force (length sums) some sums refl) (length xs));
+          entries = rw none (never_impossible b.in_force p.in_force (length sums) some [] refl (omega arith) sums (agrees_none b.in_force p.in_force (length sums) some sums refl) (length xs));
         })
 
-    feed_answer_lem : (fed b xs sums).answer ≡ Ok tt
+    feed_answer_lem : (feed_of b xs sums).answer ≡ Ok tt
     unfolding feed_of
     feed_answer_lem = whole_feed
 
-    whole_both : first (fed b xs sums).answer (read_out b xs sums output).answer ≡ Ok tt
+    whole_both : frame_answer_on b xs sums output ≡ Ok tt
+    unfolding frame_answer_on
     whole_both =
         rw (feed_answer_lem, then_read_out b none xs sums whole_feed output, le-ltb (length xs) (wanted b) (omega (arith, full)), eq-eqb _ _ (read_out_taken all left output read_passed).room)
 

@@ -4,11 +4,11 @@ use Rattle.laws.specs.Lists.{joined}
 use Rattle.board.specs.Board.{wanted}
 use Rattle.operations.specs.Covered.{coverage_of}
 use Rattle.history.specs.Calls.{update, start, feed, Ledger, fresh, view_of, next}
-use Rattle.history.specs.Readings.{frame_from}
+use Rattle.history.specs.Readings.{ramp_of, frame_from}
 use Rattle.history.specs.Demands.{FrameClaim}
-use Rattle.begin.specs.Begun.{started}
+use Rattle.begin.specs.Begin.{started}
 use Rattle.whole_frame.specs.Chain.{frame_answer, frame_sums, frame_words}
-use Rattle.steps.specs.Steps.{feed_answer, feed_leaves, read_out_answer, read_out_leaves}
+use Rattle.single_operations.specs.Steps.{feed_answer, feed_leaves, read_out_answer, read_out_leaves}
 
 -- the parts of a ramp, each fed with those before it counted: the sums that the last one leaves
 abbrev pub fed_in_parts : ℕ → ℕ → Bool → List ℕ → ℕ → List (List ℕ) → List ℤ → List ℤ
@@ -42,5 +42,5 @@ pub record AgreementLaws : Type 0 where
       → frame_answer width height binned bytes readings sums output ≡ Ok tt
       → let ℓ = ledger_of width height binned bytes readings sums in
       let words = frame_words width height binned bytes readings sums output in
-      (words ≡ frame_from ℓ)
-      × (coverage_of (view_of ℓ) ≡ Ok true → FrameClaim ℓ (Ok tt) words)
+      (words ≡ frame_from (ramp_of ℓ))
+      × (coverage_of (view_of ℓ) ≡ Ok true → FrameClaim (ramp_of ℓ) (Ok tt) words)

@@ -1,2 +1,2 @@
 -- Open, Update and Start, one after the other.
-pub mod Begun
+pub mod Begin

@@ -13,19 +13,19 @@ use Rattle.checks.specs.declared.Reason.TheVariants.{NoRamp, SumsLength}
 use Rattle.checks.specs.Checks.{Answer, when, first, verdict}
 use Rattle.checks.proofs.Laws.{first_taken, verdict_append, both_taken, when_taken}
 use Rattle.board.specs.declared.Board.{Board}
-use Rattle.board.specs.Board.{area, of_taken_sides, sound, unsound}
+use Rattle.board.specs.Board.{board_area, of_taken_sides, sound, unsound}
 use Rattle.board.specs.RampChecks.{ramp_checks}
 use Rattle.board.proofs.Soundness.{sound_parts}
 
 -- of a board that isn't sound, the ramp and the number of sums don't matter
-pub in_order : (b : Board) (n : ℕ) → first (unsound b) (first (when (not b.running) NoRamp) (when (not (eqb n (of_taken_sides b (area b)))) SumsLength)) ≡ verdict (ramp_checks b n)
+pub in_order : (b : Board) (n : ℕ) → first (unsound b) (first (when (not b.running) NoRamp) (when (not (eqb n (of_taken_sides b (board_area b)))) SumsLength)) ≡ verdict (ramp_checks b n)
 unfolding verdict
 in_order b n = cases (sound b) (λ s. rw (s, (sound_parts b s).sides, first_taken)) (λ s. rw s)
 
 pub record RampTaken (b : Board) (sumsLength : ℕ) : Type 0 where
   pub whole : sound b ≡ true
   pub running : b.running ≡ true
-  pub length_is : sumsLength ≡ area b
+  pub length_is : sumsLength ≡ board_area b
 
 pub ramp_taken : (b : Board) (n : ℕ) → verdict (ramp_checks b n) ≡ Ok tt → RampTaken b n
 unfolding verdict

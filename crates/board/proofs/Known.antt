@@ -11,8 +11,8 @@ use Rattle.board.specs.Known.{AllKnown}
 pub known : AllKnown
 unfolding open_of verdict sound sides_taken in_range every
 known =
-    refl then refl then refl then refl then refl then refl then refl then refl then refl then refl then refl then refl
+    refl then refl then refl then refl then refl then refl then refl then refl then refl then refl then refl then refl then refl
     then refl then refl then refl then refl then refl then refl then refl then refl then (refl, refl)
     then (refl, refl) then (refl, refl) then (refl, refl) then (refl, refl) then (refl, refl) then (refl, refl)
     then (refl, refl) then (refl, refl) then (refl, refl) then (refl, refl) then (refl, refl) then (refl, refl)
-    then (refl, refl) then (refl, refl) then refl then refl then refl then refl then refl then tt
+    then (refl, refl) then (refl, refl) then refl then refl then refl then refl then refl then refl then tt

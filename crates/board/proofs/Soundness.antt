@@ -11,7 +11,7 @@ use Rattle.laws.proofs.Tests.{and_true}
 pub use Rattle.sides.proofs.Parts.{Side, Sides, sides_parts}
 use Rattle.settings.proofs.Parts.{InRange, in_range_parts, in_range_whole}
 use Rattle.board.specs.declared.Board.{Board}
-use Rattle.board.specs.Board.{area, wanted, sides_taken, idle_unfed, sound}
+use Rattle.board.specs.Board.{board_area, wanted, sides_taken, idle_unfed, sound}
 
 pub record Sound (b : Board) : Type 0 where
   pub sides : sides_taken b.sides.width b.sides.height b.sides.binned ≡ true
@@ -45,5 +45,5 @@ module _ (b : Board) (s : Sound b) where
   sides_of = sides_parts _ _ _ s.sides
 
   -- a ramp wants at most nine readings of each pixel
-  pub wanted_nine : wanted b ≤ 9 * area b
+  pub wanted_nine : wanted b ≤ 9 * board_area b
   wanted_nine = mul-le-mul {n₂ = 9} s.in_force.samples_high (omega arith)

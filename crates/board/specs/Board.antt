@@ -1,19 +1,20 @@
--- A board, what *sound* means, and what opening, the end of a ramp and a refusal leave.
+-- A board, what *sound* means, the setters of a board's parts, and what opening, the end of a ramp and a refusal leave.
 use Rattle.std.specs.Prelude.{ℕ, ◌*◌, Bool, false, not, ◌&&◌, ◌||◌, leb, eqb}
 use Rattle.sides.specs.Sides.{of_sides}
 unfoldable pub use Rattle.sides.specs.Sides.{sides_taken}
+use Rattle.settings.specs.declared.Settings.{Settings}
 use Rattle.settings.specs.Settings.{defaults, in_range}
 use Rattle.checks.specs.declared.Reason.TheVariants.{UnsoundBoard}
 use Rattle.checks.specs.Checks.{Answer, when, by_answer}
 use Rattle.board.specs.declared.Board.{Board}
 
 -- M: the number of pixels
-abbrev pub area : Board → ℕ
-area b = b.sides.width * b.sides.height
+abbrev pub board_area : Board → ℕ
+board_area b = b.sides.width * b.sides.height
 
 -- N × M, with the N in force: the readings that a ramp wants in all
 abbrev pub wanted : Board → ℕ
-wanted b = b.in_force.samples * area b
+wanted b = b.in_force.samples * board_area b
 
 -- n for sides that Open takes, and 0 for any other
 abbrev pub of_taken_sides : Board → ℕ → ℕ
@@ -48,9 +49,16 @@ opened width height binned = record {
   fed = 0;
 }
 
+-- a board with other settings, and with another ramp: all else of it is kept
+abbrev pub with_settings : Settings → Settings → Board → Board
+with_settings waiting in_force b = record { sides = b.sides; waiting = waiting; in_force = in_force; running = b.running; fed = b.fed }
+
+abbrev pub with_ramp : Bool → ℕ → Board → Board
+with_ramp running fed b = record { sides = b.sides; waiting = b.waiting; in_force = b.in_force; running = running; fed = fed }
+
 -- the ramp ends
 abbrev pub ended : Board → Board
-ended b = record { sides = b.sides; waiting = b.waiting; in_force = b.in_force; running = false; fed = 0 }
+ended b = with_ramp false 0 b
 
 -- what an operation answers, with the board as it leaves it
 pub record Outcome : Type 0 where

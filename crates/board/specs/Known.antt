@@ -6,24 +6,18 @@ use Rattle.settings.specs.Settings.{defaults, with_weights, with_threshold, with
 use Rattle.checks.specs.declared.Reason.TheVariants.{BadSides, NoRamp, SumsLength, UnsoundBoard}
 use Rattle.checks.specs.Checks.{Answer, refusal, verdict}
 use Rattle.board.specs.declared.Board.{Board}
-use Rattle.board.specs.Board.{sound, opened}
+use Rattle.board.specs.Board.{sound, opened, with_settings, with_ramp, ended}
 use Rattle.board.specs.Open.{open_of}
 use Rattle.board.specs.RampChecks.{ramp_checks}
 
--- a board with other settings, and with another ramp: all else of it is kept
-abbrev pub with_settings : Settings → Settings → Board → Board
-with_settings waiting in_force b = record { sides = b.sides; waiting = waiting; in_force = in_force; running = b.running; fed = b.fed }
-
-abbrev pub with_ramp : Bool → ℕ → Board → Board
-with_ramp running fed b = record { sides = b.sides; waiting = b.waiting; in_force = b.in_force; running = running; fed = fed }
-
 -- sides that Open is handed, and its answer; a board, and whether it is sound; settings, and whether a board is sound that has them waiting, or in force;
--- a board and a number of sums, and what the checks that Feed and Read out begin with say
+-- a board and a number of sums, and what the checks that Feed and Read out begin with say; a board, and what the end of its ramp leaves
 pub data Known : Type 0 where
   opens : (width height : ℕ) (binned : Bool) (answer : Answer) → Known
   board : (b : Board) (is_sound : Bool) → Known
   settings : (s : Settings) (is_sound : Bool) → Known
   sums : (b : Board) (count : ℕ) (answer : Answer) → Known
+  ends : (b left : Board) → Known
 
 -- a board of one pixel with the defaults: a ramp wants nine readings
 abbrev idle : Board
@@ -39,10 +33,12 @@ Holds (opens width height binned answer) = (open_of width height binned).answer 
 Holds (board b is_sound) = sound b ≡ is_sound
 Holds (settings s is_sound) = (sound (with_settings s defaults (fed 0)) ≡ is_sound) × (sound (with_settings defaults s (fed 0)) ≡ is_sound)
 Holds (sums b count answer) = verdict (ramp_checks b count) ≡ answer
+Holds (ends b left) = ended b ≡ left
 
 abbrev pub table : List Known
 table =
     opens 1 1024 false (Ok tt)
+    ∷ opens 1024 1 false (Ok tt)
     ∷ opens 0 1 false (Err (refusal BadSides))
     ∷ opens 1 0 false (Err (refusal BadSides))
     ∷ opens 1025 1 false (Err (refusal BadSides))
@@ -86,6 +82,8 @@ table =
     ∷ sums (fed 0) 0 (Err (refusal SumsLength))
     ∷ sums (fed 0) 1 (Ok tt)
     ∷ sums (fed 0) 2 (Err (refusal SumsLength))
+    -- the end of a ramp leaves none running and nothing fed
+    ∷ ends (fed 9) idle
     ∷ []
 
 -- every row follows from the definitions

@@ -24,7 +24,9 @@ impl Board {
         }
     }
 
-    /// Open: a board with the default settings, or a refusal.
+    /// Open. Takes sides, and whether the board is binned. Gives a board with the defaults waiting and in force, and no ramp.
+    /// Refused with 1 for a side that is 0 or above 1,024, or an odd side of a binned board; no board results.
+    /// The definition is `open_of` in board/specs/Open.antt.
     #[tactic(auto, unfolding(crate::specs::Open::open_of, checks::specs::Checks::verdict))]
     pub fn open(sides: Sides) -> Result<Board, Refusal>
         ensures { let opening = open_of sides.width sides.height sides.binned in result ≡ or_refused opening.answer opening.board }

@@ -9,18 +9,11 @@ use crate::Board;
 use checks::{Answer, Reason, refuse_when};
 
 impl Board {
-    /// How many pixels the board has, as `Sides::area` tells: 0 for sides that Open doesn't take.
-    pub fn area(self) -> usize
-        ensures { result ≡ of_taken_sides self (Def.area self) }
-    {
-        self.sides.area()
-    }
-
-    /// How many readings the ramp wants in all; 0 for sides that Open doesn't take, too.
+    /// How many readings the ramp wants in all; 0 for sides that Open doesn't take, as `Sides::area` has it. No operation: it refuses nothing.
     pub fn wanted(self) -> usize
         ensures { result ≡ of_taken_sides self (Def.wanted self) }
     {
-        usize::from(self.in_force.samples) * self.area()
+        usize::from(self.in_force.samples) * self.sides.area()
     }
 
     #[tactic(auto, unfolding(crate::specs::Board::sound))]
@@ -48,6 +41,6 @@ impl Board {
     {
         self.check_sound()?;
         refuse_when(!self.running, Reason::NoRamp)?;
-        refuse_when(sums != self.area(), Reason::SumsLength)
+        refuse_when(sums != self.sides.area(), Reason::SumsLength)
     }
 }

@@ -19,7 +19,7 @@ use Rattle.checks.specs.declared.Reason.{Reason}
 use Rattle.checks.specs.declared.Refusal.{Refusal}
 use Rattle.std.specs.Prelude.{Option, Some, None, Ok, Err}
 use Rattle.checks.specs.Checks.{Answer, refusal, when, found, first, verdict}
-use Rattle.checks.specs.Told.{number}
+use Rattle.checks.specs.Plain.{number}
 
 pub first_taken : (a : Answer) → first a (Ok tt) ≡ a
 first_taken (Ok tt) = refl

@@ -3,7 +3,7 @@ use Rattle.std.specs.Prelude.{true, false, [], ◌∷◌, ◌≡◌, ltb, map, S
 use Rattle.checks.specs.declared.Reason.TheVariants.{BadSides, ShortRecord, UnknownField, RecordLength, WeightRange, ThresholdRange, TruncationRange, SamplesRange, RampRunning, NoRamp, SumsLength, TooManyReadings, ReadingRange, EntryNotPossible, ReadingsWanted, WordsLength, BadInput, TooManyPixels, OutsideFrame, UnsoundBoard}
 use Rattle.checks.specs.Search.{first_place}
 use Rattle.checks.specs.Checks.{refusal, when, found, verdict}
-use Rattle.checks.specs.Told.{number, refusal_number, refusal_place}
+use Rattle.checks.specs.Plain.{number, refusal_number, refusal_place}
 
 pub record AllKnown : Type 0 where
   -- a refusal with no search has place 0, one with a search the place that was found

@@ -1,5 +1,5 @@
 -- Checks and answers, as every operation's definition cites them.
 pub mod Search
 pub mod Checks
-pub mod Told
+pub mod Plain
 pub mod Known

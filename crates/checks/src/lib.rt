@@ -3,9 +3,9 @@
 
 ghost use Rattle.std.specs.Prelude.{◌≡◌};
 ghost use Rattle.checks.specs.Checks as Def;
-ghost use Rattle.checks.specs.Told as Told;
+ghost use Rattle.checks.specs.Plain as Plain;
 
-pub mod told;
+pub mod plain;
 
 /// Each reason has the number that document 01 names for it.
 #[derive(Clone, Copy, Debug, PartialEq, Eq)]
@@ -14,7 +14,7 @@ pub enum Reason {
     BadSides = 1,
     /// An update record under two bytes.
     ShortRecord = 2,
-    /// An update map with a bit that stands for no field.
+    /// An update map with a bit set that has no field.
     UnknownField = 3,
     /// An update record whose length isn't what its map calls for.
     RecordLength = 4,
@@ -56,7 +56,7 @@ pub type Answer = Result<(), Refusal>;
 impl Reason {
     /// The reason's number. No `From`: which number it is stands in the name.
     pub fn number(self) -> u8
-        ensures { result ≡ Told.number self }
+        ensures { result ≡ Plain.number self }
     {
         self as u8
     }

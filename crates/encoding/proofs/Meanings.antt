@@ -12,6 +12,7 @@ use lib.Pow.{pow_pos}
 use lib.Signed.{◌<ℤ◌, lt_z}
 use Rattle.laws.specs.Lists.{total}
 use Rattle.laws.proofs.Tests.{clash}
+use Rattle.word_codes.specs.Codes.{ordinary_end, word_modulus}
 use Rattle.settings.specs.Settings.{truncation_in_range}
 use Rattle.settings.specs.Covered.{ceiling}
 use Rattle.encoding.specs.Word.{is_negative, cut_by}
@@ -27,8 +28,8 @@ module _ (r : ℕ) (in_r : truncation_in_range r ≡ true) where
       let d = k * b in
       let q = v / d in
       let hd : 0 < d = mul-pos some-k (pow_pos r) in
-      let small : q < 32752 = (div-lt_iff_lt-mul {k = d} {x = v} {y = 32752} hd).1 (rw (mul_left_comm 32752 k b) h) in
-      let kept : q % 32768 ≡ q = mod-eq_of_lt (omega arith) in
+      let small : q < ordinary_end = (div-lt_iff_lt-mul {k = d} {x = v} {y = ordinary_end} hd).1 (rw (mul_left_comm ordinary_end k b) h) in
+      let kept : q % word_modulus ≡ q = mod-eq_of_lt (omega arith) in
       let e = (MeaningLaws.laws).limits_exact r q in_r small in
       let from : k * (q * b) ≤ v = rw (mul_left_comm k q b) (div-mul-le_self v d) in
       let below : v < k * ((q + 1) * b) = rw (mul_left_comm k (q + 1) b, mul_comm (q + 1) d) (lt-mul-div-succ v hd) in

@@ -2,6 +2,7 @@
 use Rattle.std.specs.Prelude.{ℕ, ◌+◌, ◌*◌, ◌/◌, ◌%◌, ◌^◌, min, Bool, cond, List, [], ◌∷◌, ℤ, pos, nat_abs, length, Option, Some, None}
 use Rattle.std.specs.Int.Signed.{lt_z}
 use Rattle.laws.specs.Lists.{total}
+use Rattle.word_codes.specs.Codes.{saturated_at, negative_code, word_modulus}
 use Rattle.entries.specs.Mark.{sample_of}
 
 -- the smaller of two samples, where there are two
@@ -21,7 +22,7 @@ is_negative sums = lt_z (total sums) (pos 0)
 
 -- a sum S that isn't negative is divided by d, rounded down; then its remainder by 32,768
 abbrev pub cut_by : ℕ → ℤ → ℕ
-cut_by d S = nat_abs S / d % 32768
+cut_by d S = nat_abs S / d % word_modulus
 
 -- d is 2^r, and 4 × 2^r for a square
 abbrev pub cut_of : ℕ → List ℤ → ℕ
@@ -29,8 +30,8 @@ cut_of r sums = cut_by (length sums * 2 ^ r) (total sums)
 
 -- a mark of sample n gives 32,752 + n; otherwise a negative sum gives 32,767; otherwise it is cut
 abbrev pub word_by : ℕ → Option ℕ → List ℤ → ℕ
-word_by r (Some n) sums = 32752 + n
-word_by r None sums = cond (is_negative sums) 32767 (cut_of r sums)
+word_by r (Some n) sums = saturated_at n
+word_by r None sums = cond (is_negative sums) negative_code (cut_of r sums)
 
 -- the word of one entry, or of a square's four
 abbrev pub word_of : ℕ → List ℤ → ℕ

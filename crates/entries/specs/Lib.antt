@@ -1,5 +1,5 @@
 -- An entry of the sums: a sum or a mark, and whether it is possible.
 pub mod Mark
 pub mod Possible
-pub mod Range
+pub mod SupportRange
 pub mod Laws

@@ -13,7 +13,7 @@ pub const MARK: i32 = 1073741824;
 const MAX_PRODUCT: i32 = 245745;
 
 /// A mark moved down by a gap; a sum stays.
-pub fn lowered(entry: i32, gap: i32) -> i32
+pub fn lowered(gap: i32, entry: i32) -> i32
     requires { (pos 0 ≤ℤ gap) × (gap ≤ℤ pos 1073741825) }
     ensures { result ≡ cond (marked entry) (entry -ℤ gap) entry }
 {
@@ -23,14 +23,14 @@ pub fn lowered(entry: i32, gap: i32) -> i32
 /// Whether an entry is possible after k samples. With the mark of sample k moved down to the highest sum, one range holds sums and marks; with the
 /// lowest sum moved to the lowest number, one test tells the range. k is N, or a count of samples: its bound stands in each contract, since each
 /// caller has the number at hand, and a type for it would be made at the call and taken apart in it.
-pub fn is_possible(entry: i32, k: usize) -> bool
+pub fn is_possible(k: usize, entry: i32) -> bool
     requires { k ≤ max_samples }
     ensures { result ≡ possible_after k entry }
 {
     // k is at most nine; the library has no `From` of a `usize` for an `i32`.
     let samples = k as i32;
     let span = samples * MAX_PRODUCT;
-    let moved = lowered(entry, MARK + samples - (128 + span));
+    let moved = lowered(MARK + samples - (128 + span), entry);
     let lowest = i32::MIN.wrapping_add(span - 128);
     moved.wrapping_add(lowest) <= i32::MIN + 2 * span
 }

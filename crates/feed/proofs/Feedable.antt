@@ -11,7 +11,7 @@ use lib.Dec.{ltb}
 use lib.IntN.{ℤ}
 use Rattle.laws.proofs.Tests.{cases}
 use Rattle.settings.proofs.Parts.{in_range_whole}
-use Rattle.ramp.specs.Requires.{Feedable}
+use Rattle.ramp.specs.SupportRequires.{Feedable}
 use Rattle.board.specs.declared.Board.{Board}
 use Rattle.board.specs.Board.{wanted, of_taken_sides, sound}
 use Rattle.board.proofs.Soundness.{sound_parts, sides_of, wanted_nine}

@@ -3,27 +3,29 @@
 
 ghost use Rattle.std.specs.Prelude.{◌≡◌, true, length};
 ghost use Rattle.checks.specs.Checks.{verdict};
-ghost use Rattle.board.specs.Board.{area, sound};
+ghost use Rattle.board.specs.Board.{board_area, sound};
 ghost use Rattle.operations.specs.Feed.{reading_checks, feed_checks, feed_of, fed_sums};
 
 use board::Board;
 use checks::{Answer, Reason, refuse_at, refuse_when};
+use ramp::write_sums;
 use readings::first_above;
-use written::first_not_possible;
+use written::first_impossible_written;
 
 // 12, 13 and 14 of Feed.
 #[tactic(auto, using(crate::proofs::Feedable::wanted_left), unfolding(checks::specs::Checks::verdict))]
 fn check_readings(board: Board, readings: &[u16], sums: &[i32]) -> Answer
-    requires { (sound board ≡ true) × (length sums.now ≡ area board) }
+    requires { (sound board ≡ true) × (length sums.now ≡ board_area board) }
     ensures { result ≡ verdict (reading_checks board readings.now sums.now) }
 {
     let count = readings.len();
     refuse_when(count > board.wanted() - board.fed, Reason::TooManyReadings)?;
     refuse_at(first_above(readings), Reason::ReadingRange)?;
-    let impossible = first_not_possible(sums, board.fed, count);
+    let impossible = first_impossible_written(board.fed, count, sums);
     refuse_at(impossible, Reason::EntryNotPossible)
 }
 
+/// Every check of Feed, which nothing is written before.
 pub fn check_feed(board: Board, readings: &[u16], sums: &[i32]) -> Answer
     ensures { result ≡ verdict (feed_checks board readings.now sums.now) }
 {
@@ -31,7 +33,11 @@ pub fn check_feed(board: Board, readings: &[u16], sums: &[i32]) -> Answer
     check_readings(board, readings, sums)
 }
 
-/// Feed: every check first, then the readings go into the sums.
+/// Feed. Takes a board, readings and the sums. Leaves each reading accumulated into its pixel's entry, and so many more readings fed.
+/// Refused, in this order, with 99 for a board that isn't sound, 10 where no ramp runs, 11 where there isn't one sum for each pixel, 12 for more readings than
+/// the ramp still wants, 13 for a reading above 16,383, at its place in the readings, and 14 for an entry that the ramp has written, that gets a reading now
+/// and that isn't possible, at its place in the sums. Board and sums are then as they were.
+/// The definitions are `feed_of` and `fed_sums` in operations/specs/Feed.antt.
 #[tactic(auto, unfolding(operations::specs::Feed::feed_of, operations::specs::Feed::fed_sums))]
 pub fn feed(board: &mut Board, readings: &[u16], sums: &mut [i32]) -> Answer
     ensures answer { result ≡ (feed_of board.old readings.now sums.old).answer }
@@ -39,7 +45,7 @@ pub fn feed(board: &mut Board, readings: &[u16], sums: &mut [i32]) -> Answer
     ensures sums { sums.new ≡ fed_sums board.old readings.now sums.old }
 {
     check_feed(*board, readings, sums)?;
-    ramp::feed(readings, sums, board.fed, board.in_force);
+    write_sums(board.in_force, board.fed, readings, sums);
     board.fed += readings.len();
     Ok(())
 }

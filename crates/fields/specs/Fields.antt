@@ -5,7 +5,7 @@ use Rattle.checks.specs.declared.Reason.TheVariants.{WeightRange, ThresholdRange
 use Rattle.checks.specs.Checks.{Answer, when}
 use Rattle.record.specs.declared.Field.{Field}
 use Rattle.record.specs.declared.Field.TheVariants.{Weight, Threshold, Truncation, Samples}
-use Rattle.record.specs.Record.{stands, map_of, field_count, field_of, number_of, weight_of}
+use Rattle.record.specs.Record.{bit_set, map_of, field_count, field_of, number_of, weight_of}
 use Rattle.settings.specs.declared.Settings.{Settings}
 use Rattle.settings.specs.Settings.{threshold_in_range, truncation_in_range, samples_in_range, with_weights, with_threshold, with_truncation, with_samples}
 
@@ -16,9 +16,9 @@ check_of Threshold v = when (not (threshold_in_range v)) ThresholdRange
 check_of Truncation v = when (not (truncation_in_range v)) TruncationRange
 check_of Samples v = when (not (samples_in_range v)) SamplesRange
 
--- the check of a bit's field, if the bit stands
+-- the check of a bit's field, if the bit is set
 abbrev pub field_check : List ℕ → ℕ → Answer
-field_check bytes bit = cond (stands (map_of bytes) bit) (check_of (field_of bit) (number_of bytes bit)) (Ok tt)
+field_check bytes bit = cond (bit_set (map_of bytes) bit) (check_of (field_of bit) (number_of bytes bit)) (Ok tt)
 
 -- the checks of a record's fields, from the lowest bit up
 abbrev pub field_checks : List ℕ → List Answer
@@ -31,9 +31,9 @@ with_field Threshold v s = with_threshold v s
 with_field Truncation v s = with_truncation v s
 with_field Samples v s = with_samples v s
 
--- settings with the field of a bit written, if the bit stands
+-- settings with the field of a bit written, if the bit is set
 abbrev pub with_bit : List ℕ → ℕ → Settings → Settings
-with_bit bytes bit s = cond (stands (map_of bytes) bit) (with_field (field_of bit) (number_of bytes bit) s) s
+with_bit bytes bit s = cond (bit_set (map_of bytes) bit) (with_field (field_of bit) (number_of bytes bit) s) s
 
 -- settings with the fields of the bits below n written, in bit order
 unfoldable pub with_bits : List ℕ → ℕ → Settings → Settings

@@ -8,7 +8,7 @@ ghost use Rattle.fields.specs.Fields.{check_of, field_checks, with_field, result
 
 use checks::{Answer, Reason, Refusal, refuse_when};
 use ranges::{samples_in_range, threshold_in_range, truncation_in_range};
-use record::{FIELDS, Field, pair, stands, weight_of};
+use record::{FIELDS, Field, bit_set, u16_le_at, weight_of};
 use settings::Settings;
 
 // Whether a field takes a number.
@@ -24,7 +24,7 @@ fn check(field: Field, number: u16) -> Answer
 }
 
 // The settings with the field of a bit written. The bit and not the field: a weight's place is below nine as `of_bit` gives it.
-fn with_field(before: Settings, bit: usize, number: u16) -> Settings
+fn with_field(bit: usize, number: u16, before: Settings) -> Settings
     ensures { result ≡ with_field (field_of bit) number before }
 {
     let mut settings = before;
@@ -37,20 +37,20 @@ fn with_field(before: Settings, bit: usize, number: u16) -> Settings
     settings
 }
 
-/// The settings with each field that stands in the map written, or the refusal of the first bad one.
-pub fn decode(before: Settings, bytes: &[u8]) -> Result<Settings, Refusal>
+/// The settings with each field whose bit is set in the map written, or the refusal of the first bad one.
+pub fn decode(bytes: &[u8], before: Settings) -> Result<Settings, Refusal>
     ensures { result ≡ or_refused (verdict (field_checks bytes.now)) (resulting bytes.now before) }
 {
-    let map = pair(bytes, 0);
+    let map = u16_le_at(bytes, 0);
     let mut settings = before;
     let mut at = 2;
     for bit in 0..FIELDS {
-        if stands(map, bit) {
+        if bit_set(map, bit) {
             let field = Field::of_bit(bit);
             let number = field.number_at(bytes, at);
             check(field, number)?;
-            settings = with_field(settings, bit, number);
-            at += field.width();
+            settings = with_field(bit, number, settings);
+            at += field.size();
         }
     }
     Ok(settings)

@@ -27,7 +27,7 @@ use Rattle.places.specs.declared.Place.{Place}
 use Rattle.places.specs.Places.{place_of, flag_at}
 use Rattle.places.specs.Counting.{how_many, in_box, flag_within}
 use Rattle.places.proofs.Counts.{many_few, many_none, many_same, many_append, many_within}
-use Rattle.flag_boxes.specs.Requires.{Boxed}
+use Rattle.flag_boxes.specs.SupportRequires.{Boxed}
 
 -- the flags among the first n words
 count_first : (words : List ℕ) (n : ℕ) → n ≤ length words → how_many n (flag_at words) ≡ count_by is_flag (take n words)

@@ -1,2 +1,2 @@
 -- What the count asks for.
-pub mod Requires
+pub mod SupportRequires

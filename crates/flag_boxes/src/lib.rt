@@ -4,7 +4,7 @@
 ghost use Rattle.std.specs.Prelude.{◌≡◌, ◌≤◌, length, count_by};
 ghost use Rattle.meaning.specs.Meaning.{is_flag};
 ghost use Rattle.places.specs.Counting.{how_many, flag_within};
-ghost use Rattle.flag_boxes.specs.Requires.{Boxed};
+ghost use Rattle.flag_boxes.specs.SupportRequires.{Boxed};
 
 use meaning::is_flag;
 use places::{Frame, Place};

@@ -22,7 +22,7 @@ use Rattle.places.specs.Finding.{nearest_at}
 use Rattle.places.specs.Laws.{NotAfter}
 use Rattle.places.proofs.Flagged.{flag_below}
 use Rattle.places.proofs.Nearness.{nearest_is, nearest_none}
-use Rattle.flag_rows.specs.Clear.{ClearTo}
+use Rattle.flag_rows.specs.SupportClear.{ClearTo}
 
 module _ (row : List ℕ) (column : ℕ) where
   -- a flag further away, or as far

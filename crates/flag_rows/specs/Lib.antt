@@ -1,2 +1,2 @@
 -- How far a row has no flag.
-pub mod Clear
+pub mod SupportClear

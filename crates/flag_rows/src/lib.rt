@@ -5,7 +5,7 @@ ghost use Rattle.std.specs.Prelude.{ℕ, ◌≡◌, true, false, not, ◌||◌, 
 ghost use Rattle.meaning.specs.Meaning.{is_flag};
 ghost use Rattle.places.specs.Places.{flag_at, apart};
 ghost use Rattle.places.specs.Finding.{nearest_at};
-ghost use Rattle.flag_rows.specs.Clear.{ClearTo};
+ghost use Rattle.flag_rows.specs.SupportClear.{ClearTo};
 
 use meaning::is_flag;
 

@@ -14,6 +14,7 @@ use native.Mathlib.Omega.{arith}
 use borrow.Author.Tests.{ltb-true, ltb-false, leb-true, leb-false}
 use lib.Dec.{ltb, leb}
 use lib.ListN.{length}
+use Rattle.sides.specs.Sides.{max_area}
 use Rattle.std.specs.Prelude.{Option, Some, None, SomeIff}
 use Rattle.laws.proofs.Tests.{cases}
 use Rattle.places.specs.declared.Place.{Place}
@@ -23,15 +24,15 @@ use Rattle.places.specs.Laws.{NotAfter}
 use Rattle.places.proofs.Checked.{within}
 use Rattle.places.proofs.Flagged.{flag_below}
 use Rattle.places.proofs.Nearness.{nearest_is, nearest_none}
-use Rattle.flag_search.specs.Requires.{Searched}
-use Rattle.flag_search.specs.Keys.{key_of, lower, AtMost, Least}
+use Rattle.flag_search.specs.SupportRequires.{Searched}
+use Rattle.flag_search.specs.SupportKeys.{key_of, lower, AtMost, Least}
 
-module _ (a i b j : ℕ) (few : i < 1048576) (many : j < 1048576) where
-  pub key_order : NotAfter a i b j → a * 1048576 + i ≤ b * 1048576 + j
+module _ (a i b j : ℕ) (few : i < max_area) (many : j < max_area) where
+  pub key_order : NotAfter a i b j → a * max_area + i ≤ b * max_area + j
   key_order (inl p) = omega arith
   key_order (inr p) = omega arith
 
-  pub order_key : a * 1048576 + i ≤ b * 1048576 + j → NotAfter a i b j
+  pub order_key : a * max_area + i ≤ b * max_area + j → NotAfter a i b j
   order_key h = cases (ltb a b) (λ e. inl (ltb-true a b e)) (λ e. inr (omega (arith, ltb-false a b e), omega (arith, ltb-false a b e)))
 
 module _ (words : List ℕ) (width : ℕ) (place : Place) where
@@ -92,9 +93,9 @@ module _ (words : List ℕ) (width : ℕ) (place : Place) where
     row_column = within words width height s.whole (omega (arith, s.column))
 
     pub key_found : (key : ℕ) → Least words width place (λ j. j < length words) (Some key)
-        → nearest_at (length words) (flag_at words) (distance_from width place) ≡ Some (key % 1048576)
+        → nearest_at (length words) (flag_at words) (distance_from width place) ≡ Some (key % max_area)
     key_found key k =
-        let i = key % 1048576 in
+        let i = key % max_area in
         let l = flag_below words i k.held.0 in
         nearest_is (flag_at words) (distance_from width place) (length words) i
         (record {

@@ -9,20 +9,21 @@ use mathlib.Core.Path.{◌≡◌, refl, sym, subst, ◌∙◌}
 use native.Mathlib.Nat.{div-add-mod', add-sub_cancel_left}
 use native.Mathlib.Omega.{arith}
 use lib.ListN.{length, take, drop}
+use Rattle.sides.specs.Sides.{max_side, max_area}
 use Rattle.laws.proofs.Numbers.{quotient, rest}
 use Rattle.laws.proofs.Parts.{part_length, part_at}
 use Rattle.laws.proofs.Tests.{clash}
 use Rattle.std.specs.Prelude.{Option, Some, None}
 use Rattle.places.specs.declared.Place.{Place}
-use Rattle.places.specs.Places.{flag_at, apart, square}
+use Rattle.places.specs.Places.{flag_at, apart, squared}
 use Rattle.places.specs.Finding.{nearest_at, distance_from}
 use Rattle.places.specs.Laws.{NotAfter}
 use Rattle.places.proofs.Checked.{row_room}
 use Rattle.places.proofs.Flagged.{flag_below}
 use Rattle.places.proofs.Nearness.{Best, Says, nearest_says}
-use Rattle.flag_search.specs.Requires.{Searched}
-use Rattle.flag_search.specs.Keys.{Least, key_of}
-use Rattle.flag_search.proofs.Distances.{square_less}
+use Rattle.flag_search.specs.SupportRequires.{Searched}
+use Rattle.flag_search.specs.SupportKeys.{Least, key_of}
+use Rattle.flag_search.proofs.Distances.{squared_less}
 use Rattle.flag_search.proofs.Keyed.{key_order, row_column}
 
 module _ (words : List ℕ) (width height : ℕ) (place : Place) (s : Searched words width height place) (row : ℕ) where
@@ -60,7 +61,7 @@ module _ (words : List ℕ) (width height : ℕ) (place : Place) (s : Searched w
     same_word c h = rw (wide, part_at words (row * width) width c 0 h)
 
     -- how far a word of the row is
-    far : (c : ℕ) → c < width → distance_from width place (row * width + c) ≡ square (apart place.row row) + square (apart place.column c)
+    far : (c : ℕ) → c < width → distance_from width place (row * width + c) ≡ squared (apart place.row row) + squared (apart place.column c)
     far c h = rw (quotient width row c h, rest width row c h)
 
     -- a word in this row, by its column
@@ -77,10 +78,10 @@ module _ (words : List ℕ) (width height : ℕ) (place : Place) (s : Searched w
       abbrev index : ℕ
       index = row * width + column
 
-      few : index < 1048576
+      few : index < max_area
       few = omega (arith, room, best.below, s.few)
 
-      pub row_bounds : (rows columns : ℕ) → rows ≡ apart place.row row → columns ≡ apart place.column column → (rows ≤ 1024) × (columns ≤ 1024) × (index < 1048576)
+      pub row_bounds : (rows columns : ℕ) → rows ≡ apart place.row row → columns ≡ apart place.column column → (rows ≤ max_side) × (columns ≤ max_side) × (index < max_area)
       row_bounds rows columns a b = (omega (arith, s.row, s.high), omega (arith, s.column, s.wide, best.below), few)
 
       flag_here : flag_at words index ≡ true
@@ -89,16 +90,16 @@ module _ (words : List ℕ) (width height : ℕ) (place : Place) (s : Searched w
       -- of two in the row, the nearer column is the nearer word
       ordered : (c : ℕ) → c < width → NotAfter (apart place.column column) column (apart place.column c) c
           → NotAfter (distance_from width place index) index (distance_from width place (row * width + c)) (row * width + c)
-      ordered c h (inl p) = rw (far column best.below, far c h) (inl (omega (arith, square_less p)))
+      ordered c h (inl p) = rw (far column best.below, far c h) (inl (omega (arith, squared_less p)))
       ordered c h (inr (p, q)) = rw (far column best.below, far c h) (inr (rw p refl, omega arith))
 
-      pub row_found : (key rows columns : ℕ) → rows ≡ apart place.row row → columns ≡ apart place.column column → key ≡ (rows * rows + columns * columns) * 1048576 + index
+      pub row_found : (key rows columns : ℕ) → rows ≡ apart place.row row → columns ≡ apart place.column column → key ≡ (rows * rows + columns * columns) * max_area + index
           → Least words width place (λ j. j / width ≡ row) (Some key)
       row_found key rows columns a b k =
           let d = distance_from width place index in
           rw (k, a, b, ← far column best.below)
           (record {
-            held = rw (rest 1048576 d index few) (flag_here, refl);
+            held = rw (rest max_area d index few) (flag_here, refl);
             least = by_column (λ j. key_of width place index ≤ key_of width place j)
                 (λ c h t. key_order d index (distance_from width place (row * width + c)) (row * width + c) few (omega (arith, flag_below words (row * width + c) t, s.few))
                 (ordered c h (best.first c h (same_word c h ∙ t))));

@@ -1,3 +1,3 @@
 -- What the search asks for, and what it keeps.
-pub mod Requires
-pub mod Keys
+pub mod SupportRequires
+pub mod SupportKeys

@@ -2,24 +2,23 @@
 #![tactic(auto)]
 
 ghost use Rattle.std.specs.Prelude.{◌≡◌, ◌+◌, ◌*◌, ◌/◌, ◌≤◌, ◌<◌, length};
+ghost use Rattle.sides.specs.Sides.{max_side, max_area};
 ghost use Rattle.places.specs.Places.{flag_at};
 ghost use Rattle.places.specs.Finding.{nearest_at, distance_from, placed};
-ghost use Rattle.flag_search.specs.Requires.{Searched};
-ghost use Rattle.flag_search.specs.Keys.{Least};
-ghost use Rattle.flag_search.specs.Keys as Def;
+ghost use Rattle.flag_search.specs.SupportRequires.{Searched};
+ghost use Rattle.flag_search.specs.SupportKeys.{Least};
+ghost use Rattle.flag_search.specs.SupportKeys as Def;
 
 use flag_rows::nearest_column;
 use places::{Frame, Place};
-
-// A frame has so many words at most.
-const WORDS: usize = 1048576;
+use sides::MAX_AREA;
 
 // A squared distance and then an index, as one number: of two keys the lower is that of the nearer word, or of the first of two.
 fn key(rows: usize, columns: usize, index: usize) -> usize
-    requires { (rows ≤ 1024) × (columns ≤ 1024) × (index < 1048576) }
-    ensures { result ≡ (rows * rows + columns * columns) * 1048576 + index }
+    requires { (rows ≤ max_side) × (columns ≤ max_side) × (index < max_area) }
+    ensures { result ≡ (rows * rows + columns * columns) * max_area + index }
 {
-    (rows * rows + columns * columns) * WORDS + index
+    (rows * rows + columns * columns) * MAX_AREA + index
 }
 
 // The lower of two keys.
@@ -88,7 +87,7 @@ pub fn search(frame: Frame, place: Place) -> Option<Place>
     requires { Searched frame.words.now frame.width frame.height place }
     ensures { result ≡ placed frame.entry.width (nearest_at (length frame.entry.words.now) (flag_at frame.entry.words.now) (distance_from frame.entry.width place)) }
 {
-    let index = Query { frame, place }.least_key()? % WORDS;
+    let index = Query { frame, place }.least_key()? % MAX_AREA;
     Some(Place {
         row: index / frame.width,
         column: index % frame.width,

@@ -9,8 +9,8 @@ use Rattle.checks.specs.Checks.{verdict}
 use Rattle.places.specs.declared.Place.{Place}
 use Rattle.places.specs.Checks.{nearest_checks, count_checks}
 use Rattle.places.proofs.Checked.{nearest_taken, count_taken, row_room}
-use Rattle.flag_search.specs.Requires.{Searched}
-use Rattle.flag_boxes.specs.Requires.{Boxed}
+use Rattle.flag_search.specs.SupportRequires.{Searched}
+use Rattle.flag_boxes.specs.SupportRequires.{Boxed}
 
 module _ (words : List ℕ) (width height : ℕ) where
   pub searched : (place : Place) → verdict (nearest_checks words width height place) ≡ Ok tt → Searched words width height place

@@ -46,7 +46,8 @@ fn check(frame: Frame, inside: bool) -> Answer
     refuse_when(!inside, Reason::OutsideFrame)
 }
 
-/// The nearest flagged place by squared distance, and the first in row order among equals.
+/// The nearest flag. It takes a frame and a place, and gives the place of the flag that is nearest by squared distance, the first in row order among equals, or none where the frame
+/// has no flag. Refused, in this order, with 19 for a side, 16, and 19 for the place. `nearest_of` of places/specs/Finding says so.
 #[tactic(auto, using(crate::proofs::Checked::searched), unfolding(places::specs::Finding::nearest_of))]
 pub fn nearest_flag(frame: Frame, place: Place) -> Result<Option<Place>, Refusal>
     ensures { result ≡ nearest_of frame.entry.words.now frame.entry.width frame.entry.height place }
@@ -55,7 +56,8 @@ pub fn nearest_flag(frame: Frame, place: Place) -> Result<Option<Place>, Refusal
     Ok(search(frame, place))
 }
 
-/// How many flags lie in the box from the first corner to the last, its edges counted in.
+/// The flags in a box. It takes a frame and two corners, and gives how many flags lie in the box from the first corner to the last, its edges counted in.
+/// Refused, in this order, with 19 for a side, 16, and 19 for the box. `count_of` of places/specs/Counting says so.
 #[tactic(auto, using(crate::proofs::Checked::boxed), unfolding(places::specs::Counting::count_of))]
 pub fn count_flags(frame: Frame, first: Place, last: Place) -> Result<usize, Refusal>
     ensures { result ≡ count_of frame.entry.words.now frame.entry.width frame.entry.height first last }

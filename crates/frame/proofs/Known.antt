@@ -6,6 +6,6 @@ pub known : AllKnown
 known = record {
   known_numbers = (refl, refl, refl, refl, refl);
   known_found = (refl, refl, refl);
-  known_places = (refl, refl, refl, refl);
+  known_places = (refl, refl, refl, refl, refl, refl);
   known_counts = (refl, refl);
 }

@@ -1,13 +1,13 @@
 -- The answers about flags as plain numbers, for C. What a refusal, or "no flag", doesn't tell is as it was.
 use Rattle.std.specs.Prelude.{ℕ, Option, Some, None, Result, Ok, Err}
 use Rattle.checks.specs.declared.Refusal.{Refusal}
-use Rattle.checks.specs.Told.{number}
+use Rattle.checks.specs.Plain.{number}
 use Rattle.places.specs.declared.Place.{Place}
 
 -- the refusal's number, 0 if there is none: what `refusal_number` of `checks` is of an answer that holds nothing
-abbrev pub number_told : {A : Type 0} → Result A Refusal → ℕ
-number_told (Ok x) = 0
-number_told (Err r) = number r.reason
+abbrev pub result_number : {A : Type 0} → Result A Refusal → ℕ
+result_number (Ok x) = 0
+result_number (Err r) = number r.reason
 
 -- 1 for a flag, 0 for "no flag"
 abbrev pub found_after : Result (Option Place) Refusal → ℕ → ℕ

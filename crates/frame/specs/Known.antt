@@ -5,7 +5,7 @@ use Rattle.checks.specs.declared.Refusal.{Refusal}
 use Rattle.checks.specs.Checks.{refusal}
 use Rattle.places.specs.declared.Place.{Place}
 use Rattle.places.specs.Places.{place_at}
-use Rattle.frame.specs.FlagAnswers.{number_told, found_after, row_after, column_after, flags_after}
+use Rattle.frame.specs.FlagAnswers.{result_number, found_after, row_after, column_after, flags_after}
 
 -- a flag, "no flag", and a refusal
 abbrev at_flag : Result (Option Place) Refusal
@@ -26,11 +26,11 @@ other_length = Err (refusal WordsLength)
 
 pub record AllKnown : Type 0 where
   -- 0 for an answer, the number for a refusal
-  pub known_numbers : (number_told at_flag ≡ 0)
-      × (number_told no_flag ≡ 0)
-      × (number_told outside ≡ 19)
-      × (number_told five ≡ 0)
-      × (number_told other_length ≡ 16)
+  pub known_numbers : (result_number at_flag ≡ 0)
+      × (result_number no_flag ≡ 0)
+      × (result_number outside ≡ 19)
+      × (result_number five ≡ 0)
+      × (result_number other_length ≡ 16)
   -- `found` is 1 for a flag and 0 for none, and as it was, here 7, after a refusal
   pub known_found : (found_after at_flag 7 ≡ 1) × (found_after no_flag 7 ≡ 0) × (found_after outside 7 ≡ 7)
   -- the row, the column and the count; or what they were, here 7
@@ -38,4 +38,6 @@ pub record AllKnown : Type 0 where
       × (column_after at_flag 7 ≡ 4)
       × (row_after no_flag 7 ≡ 7)
       × (column_after no_flag 7 ≡ 7)
+      × (row_after outside 7 ≡ 7)
+      × (column_after outside 7 ≡ 7)
   pub known_counts : (flags_after five 7 ≡ 5) × (flags_after other_length 7 ≡ 7)

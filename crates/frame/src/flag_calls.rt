@@ -4,12 +4,13 @@ ghost use Rattle.std.specs.Prelude.{◌≡◌};
 ghost use Rattle.places.specs.Places.{place_at};
 ghost use Rattle.places.specs.Finding.{nearest_of};
 ghost use Rattle.places.specs.Counting.{count_of};
-ghost use Rattle.frame.specs.FlagAnswers.{number_told, found_after, row_after, column_after, flags_after};
+ghost use Rattle.frame.specs.FlagAnswers.{result_number, found_after, row_after, column_after, flags_after};
 
 use flags::{count_flags, nearest_flag};
 use places::{Frame, Place};
 
-/// The nearest flag: `found` is 1, and its row and column are told; or `found` is 0.
+/// The nearest flag, as `flags::nearest_flag`: it leaves 1 in `found` and the flag's row and column, or 0 in `found` where there is none, and gives the refusal's number, 0 if there is none.
+/// Refused, in this order, with 19 for a side, 16, and 19 for the place: then all three are as they were. `nearest_of` of places/specs/Finding and specs/FlagAnswers say so.
 #[unsafe(no_mangle)]
 pub extern "C" fn ramp_nearest_flag(
     words: &[u16],
@@ -21,7 +22,7 @@ pub extern "C" fn ramp_nearest_flag(
     flag_row: &mut usize,
     flag_column: &mut usize,
 ) -> u8
-    ensures number { result ≡ number_told (nearest_of words.now width height (place_at row column)) }
+    ensures number { result ≡ result_number (nearest_of words.now width height (place_at row column)) }
     ensures found { found.new ≡ found_after (nearest_of words.now width height (place_at row column)) found.old }
     ensures row { flag_row.new ≡ row_after (nearest_of words.now width height (place_at row column)) flag_row.old }
     ensures column { flag_column.new ≡ column_after (nearest_of words.now width height (place_at row column)) flag_column.old }
@@ -46,7 +47,8 @@ pub extern "C" fn ramp_nearest_flag(
     }
 }
 
-/// The flags in the box from the first corner to the last, its edges counted in.
+/// The flags in a box, as `flags::count_flags`: it leaves their number in `flags`, and gives the refusal's number, 0 if there is none.
+/// Refused, in this order, with 19 for a side, 16, and 19 for the box: then `flags` is as it was. `count_of` of places/specs/Counting and specs/FlagAnswers say so.
 #[unsafe(no_mangle)]
 pub extern "C" fn ramp_count_flags(
     words: &[u16],
@@ -58,7 +60,7 @@ pub extern "C" fn ramp_count_flags(
     last_column: usize,
     flags: &mut usize,
 ) -> u8
-    ensures number { result ≡ number_told (count_of words.now width height (place_at first_row first_column) (place_at last_row last_column)) }
+    ensures number { result ≡ result_number (count_of words.now width height (place_at first_row first_column) (place_at last_row last_column)) }
     ensures flags { flags.new ≡ flags_after (count_of words.now width height (place_at first_row first_column) (place_at last_row last_column)) flags.old }
 {
     let frame = Frame {

@@ -3,18 +3,19 @@
 #![tactic(auto)]
 
 ghost use Rattle.std.specs.Prelude.{◌≡◌};
-ghost use Rattle.checks.specs.Told.{refusal_number, refusal_place};
+ghost use Rattle.checks.specs.Plain.{refusal_number, refusal_place};
 ghost use Rattle.whole_frame.specs.Chain.{frame_answer, frame_sums, frame_words};
-ghost use Rattle.steps.specs.Steps.{feed_answer, feed_leaves, read_out_answer, read_out_leaves};
+ghost use Rattle.single_operations.specs.Steps.{feed_answer, feed_leaves, read_out_answer, read_out_leaves};
 
-use checks::told::told;
+use checks::plain::number_and_place;
 use sides::Sides;
-use steps::{feed_of, read_out_of};
+use single_operations::{feed_of, read_out_of};
 use whole_frame::frame_of;
 
 pub mod flag_calls;
 
-/// A frame: the number of the first refusal of Open, Update, Start, Feed and Read out, 0 if it was taken, and its place.
+/// A whole frame, as `whole_frame::frame_of`: it leaves the sums, the frame in the words, and the refusal's place, and gives the refusal's number, 0 if there is none.
+/// Refused in the order of Open, Update, Start, Feed and Read out: 1, 2 to 8, 11, 12, 13, 15, 16. `frame_answer`, `frame_sums` and `frame_words` of whole_frame/specs/Chain say so.
 #[unsafe(no_mangle)]
 pub extern "C" fn ramp_frame(
     width: usize,
@@ -36,10 +37,11 @@ pub extern "C" fn ramp_frame(
         height,
         binned,
     };
-    told(frame_of(sides, record, readings, sums, words), place)
+    number_and_place(frame_of(sides, record, readings, sums, words), place)
 }
 
-/// Feed, with `fed` readings of the ramp already fed: the number of the first refusal of Open, Update, Start and Feed, 0 if there is none, and its place.
+/// Feed alone, as `single_operations::feed_of`, with `fed` readings fed before: it leaves the sums and the refusal's place, and gives the refusal's number, 0 if there is none.
+/// Refused in the order of Open, Update, Start and Feed: 1, 2 to 8, 99, 11 to 14. `feed_answer` and `feed_leaves` of single_operations/specs/Steps say so.
 #[unsafe(no_mangle)]
 pub extern "C" fn ramp_feed(
     width: usize,
@@ -60,10 +62,11 @@ pub extern "C" fn ramp_feed(
         height,
         binned,
     };
-    told(feed_of(sides, record, fed, readings, sums), place)
+    number_and_place(feed_of(sides, record, fed, readings, sums), place)
 }
 
-/// Read out, with all readings of the ramp fed: the number of the first refusal of Open, Update, Start and Read out, 0 if there is none, and its place.
+/// Read out alone, as `single_operations::read_out_of`: it leaves the frame in the words, and the refusal's place, and gives the refusal's number, 0 if there is none.
+/// Refused in the order of Open, Update, Start and Read out: 1, 2 to 8, 11, 16, 14. `read_out_answer` and `read_out_leaves` of single_operations/specs/Steps say so.
 #[unsafe(no_mangle)]
 pub extern "C" fn ramp_read_out(
     width: usize,
@@ -83,5 +86,5 @@ pub extern "C" fn ramp_read_out(
         height,
         binned,
     };
-    told(read_out_of(sides, record, sums, words), place)
+    number_and_place(read_out_of(sides, record, sums, words), place)
 }

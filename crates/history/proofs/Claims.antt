@@ -34,13 +34,12 @@ use Rattle.meaning.specs.Meaning.{read_word}
 use Rattle.encoding.specs.Meanings.{Between}
 use Rattle.encoding.proofs.Firsts.{first_or}
 use Rattle.encoding.proofs.Meanings.{laws}
-use Rattle.history.specs.Calls.{Ledger}
-use Rattle.history.specs.Readings.{reading_at, exact_sums, over_at, FirstOver, NeverOver}
+use Rattle.history.specs.Readings.{Ramp, reading_at, exact_sums, over_at, FirstOver, NeverOver}
 use Rattle.history.specs.Demands.{WordClaim}
 
-module _ (ℓ : Ledger) (range : InRange ℓ.in_force) where
+module _ (ramp : Ramp) (range : InRange ramp.settings) where
   abbrev s : Settings
-  s = ℓ.in_force
+  s = ramp.settings
 
   abbrev N : ℕ
   N = s.samples
@@ -50,55 +49,55 @@ module _ (ℓ : Ledger) (range : InRange ℓ.in_force) where
 
   -- whether pixel p is over the threshold at sample n
   abbrev over : ℕ → ℕ → Bool
-  over p n = over_it s n (reading_at ℓ p n)
+  over p n = over_it s n (reading_at ramp p n)
 
   abbrev Under : ℕ → Type 0
   Under p = Nowhere (over p) N
 
   -- the entries of pixels
   abbrev entries : List ℕ → List ℤ
-  entries ps = map (λ p. entry_after s N (reading_at ℓ p)) ps
+  entries ps = map (λ p. entry_after s N (reading_at ramp p)) ps
 
-  marks : (ps : List ℕ) → smallest_mark (entries ps) ≡ first_of N (over_at ℓ ps)
+  marks : (ps : List ℕ) → smallest_mark (entries ps) ≡ first_of N (over_at ramp ps)
   unfolding smallest_mark any_of
   marks [] = sym (first_not (λ n. false) N (λ n a l. refl))
-  marks (p ∷ ps) = rw (entry_sample s range (reading_at ℓ p) N, marks ps) (sym (first_or (over p) (over_at ℓ ps) N))
+  marks (p ∷ ps) = rw (entry_sample s range (reading_at ramp p) N, marks ps) (sym (first_or (over p) (over_at ramp ps) N))
 
   -- where no pixel is ever over
-  sums : (ps : List ℕ) → All Under ps → entries ps ≡ exact_sums ℓ ps
+  sums : (ps : List ℕ) → All Under ps → entries ps ≡ exact_sums ramp ps
   sums [] h = refl
   sums (p ∷ ps) h = rw (first_not (over p) N h.0, sums ps h.1)
 
   pub word_is : (ps : List ℕ)
-      → word_of ℓ.in_force.truncation (map (λ p. entry_after ℓ.in_force ℓ.in_force.samples (reading_at ℓ p)) ps)
-      ≡ word_by ℓ.in_force.truncation (first_of ℓ.in_force.samples (over_at ℓ ps)) (exact_sums ℓ ps)
-  word_is ps = rw (marks ps) (by (first_of N (over_at ℓ ps)) (first_says (over_at ℓ ps) N))
+      → word_of ramp.settings.truncation (map (λ p. entry_after ramp.settings ramp.settings.samples (reading_at ramp p)) ps)
+      ≡ word_by ramp.settings.truncation (first_of ramp.settings.samples (over_at ramp ps)) (exact_sums ramp ps)
+  word_is ps = rw (marks ps) (by (first_of N (over_at ramp ps)) (first_says (over_at ramp ps) N))
     where
-      by : (o : Option ℕ) → Says (over_at ℓ ps) N o → word_by r o (entries ps) ≡ word_by r o (exact_sums ℓ ps)
+      by : (o : Option ℕ) → Says (over_at ramp ps) N o → word_by r o (entries ps) ≡ word_by r o (exact_sums ramp ps)
       by (Some n) f = refl
       by None f = rw (sums ps (nowhere_any over N ps f))
 
   -- ---- the three ways that a word reads
 
   module _ (ps : List ℕ) (reads : Result WordRead Refusal) where
-    at_mark : (n : ℕ) → FirstOver ℓ ps n → reads ≡ Ok (Saturated n) → WordClaim ℓ ps reads
+    at_mark : (n : ℕ) → FirstOver ramp ps n → reads ≡ Ok (Saturated n) → WordClaim ramp ps reads
     at_mark n f e = record {
       saturated = λ m. (
         (λ q. let i : n ≡ m = cc in rw i at f),
-        λ g. cc (first_found (over_at ℓ ps) N n f, first_found (over_at ℓ ps) N m g),
+        λ g. cc (first_found (over_at ramp ps) N n f, first_found (over_at ramp ps) N m g),
       );
       negative = ((λ q. clash (cc)), λ g. absurd (g.0 n f));
       ordinary = λ never t. absurd (never n f);
     }
 
-    at_negative : NeverOver ℓ ps → is_negative (exact_sums ℓ ps) ≡ true → reads ≡ Ok Negative → WordClaim ℓ ps reads
+    at_negative : NeverOver ramp ps → is_negative (exact_sums ramp ps) ≡ true → reads ≡ Ok Negative → WordClaim ramp ps reads
     at_negative never t e = record {
       saturated = λ m. ((λ q. clash (cc)), λ g. absurd (never m g));
       negative = ((λ q. (never, t)), λ g. e);
       ordinary = λ v f. clash (cc);
     }
 
-    at_ordinary : NeverOver ℓ ps → is_negative (exact_sums ℓ ps) ≡ false → Between (length ps) (total (exact_sums ℓ ps)) reads → WordClaim ℓ ps reads
+    at_ordinary : NeverOver ramp ps → is_negative (exact_sums ramp ps) ≡ false → Between (length ps) (total (exact_sums ramp ps)) reads → WordClaim ramp ps reads
     at_ordinary never t b = record {
       saturated = λ m. ((λ q. clash (cc)), λ g. absurd (never m g));
       negative = ((λ q. clash (cc)), λ g. clash (cc g.1));
@@ -109,37 +108,37 @@ module _ (ℓ : Ledger) (range : InRange ℓ.in_force) where
 
   module _ (c : is_covered s ≡ true) where
     -- each pixel's sum is at least 1 below the ceiling
-    total_under : (ps : List ℕ) → All Under ps → let z = total (exact_sums ℓ ps) in up z + length ps ≤ dn z + length ps * ceiling r
+    total_under : (ps : List ℕ) → All Under ps → let z = total (exact_sums ramp ps) in up z + length ps ≤ dn z + length ps * ceiling r
     unfolding total
     total_under [] h = omega arith
     total_under (p ∷ ps) h =
-        let x = reading_at ℓ p in
-        omega (arith, cover_holds s c x h.0, total_under ps h.1, sum (exact_sum s N x) (total (exact_sums ℓ ps)), suc-mul (length ps) (ceiling r))
+        let x = reading_at ramp p in
+        omega (arith, cover_holds s c x h.0, total_under ps h.1, sum (exact_sum s N x) (total (exact_sums ramp ps)), suc-mul (length ps) (ceiling r))
 
-    total_lt : (ps : List ℕ) → 0 < length ps → All Under ps → total (exact_sums ℓ ps) <ℤ pos (length ps * ceiling r)
+    total_lt : (ps : List ℕ) → 0 < length ps → All Under ps → total (exact_sums ramp ps) <ℤ pos (length ps * ceiling r)
     total_lt ps l h =
-        cases (lt_z (total (exact_sums ℓ ps)) (pos (length ps * ceiling r)))
+        cases (lt_z (total (exact_sums ramp ps)) (pos (length ps * ceiling r)))
         (λ t. record { lt = rw t tt })
         (λ t. absurd (omega (signed, total_under ps h)))
 
-  pub word_claim : is_covered ℓ.in_force ≡ true → (ps : List ℕ) → 0 < length ps
-      → WordClaim ℓ ps (read_word ℓ.in_force.truncation (word_by ℓ.in_force.truncation (first_of ℓ.in_force.samples (over_at ℓ ps)) (exact_sums ℓ ps)))
-  word_claim c ps l = rw (← word_is ps) (by (first_of N (over_at ℓ ps)) (first_says (over_at ℓ ps) N))
+  pub word_claim : is_covered ramp.settings ≡ true → (ps : List ℕ) → 0 < length ps
+      → WordClaim ramp ps (read_word ramp.settings.truncation (word_by ramp.settings.truncation (first_of ramp.settings.samples (over_at ramp ps)) (exact_sums ramp ps)))
+  word_claim c ps l = rw (← word_is ps) (by (first_of N (over_at ramp ps)) (first_says (over_at ramp ps) N))
     where
       in_r : truncation_in_range r ≡ true
       in_r = true_and (le-leb 1 r range.truncation_low) (le-leb r 3 range.truncation_high)
 
-      by : (o : Option ℕ) → Says (over_at ℓ ps) N o → WordClaim ℓ ps (read_word r (word_of r (entries ps)))
+      by : (o : Option ℕ) → Says (over_at ramp ps) N o → WordClaim ramp ps (read_word r (word_of r (entries ps)))
       by (Some n) f =
           at_mark ps _ n f
-          (laws.saturated r (entries ps) n in_r (marks ps ∙ first_found (over_at ℓ ps) N n f) f.low (omega (arith, f.high, range.samples_high)))
+          (laws.saturated r (entries ps) n in_r (marks ps ∙ first_found (over_at ramp ps) N n f) f.low (omega (arith, f.high, range.samples_high)))
       by None f =
-          let es = exact_sums ℓ ps in
+          let es = exact_sums ramp ps in
           let under = nowhere_any over N ps f in
           let e = sums ps under in
-          let m : smallest_mark es ≡ None = rw e at (marks ps ∙ first_not (over_at ℓ ps) N f) in
+          let m : smallest_mark es ≡ None = rw e at (marks ps ∙ first_not (over_at ramp ps) N f) in
           let k : length es ≡ length ps = length-map ps _ in
-          let never : NeverOver ℓ ps = λ n g. clash (sym g.holds ∙ f n g.low g.high) in
+          let never : NeverOver ramp ps = λ n g. clash (sym g.holds ∙ f n g.low g.high) in
           rw e
           (cases (is_negative es)
           (λ t. at_negative ps _ never t (laws.negative r es in_r m t))

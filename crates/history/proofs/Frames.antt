@@ -20,43 +20,43 @@ use Rattle.operations.specs.ReadOut.{read_out_of, read_out_words}
 use Rattle.operations.specs.Covered.{coverage_of}
 use Rattle.operations.proofs.Says.{covered_is}
 use Rattle.operations.proofs.ReadOutChecked.{ReadOutTaken, read_out_taken}
-use Rattle.history.specs.Calls.{read_out, Ledger, view_of, refusal, Allowed}
-use Rattle.history.specs.Readings.{area, words, pixels, reading_at, frame_from}
+use Rattle.history.specs.Calls.{read_out, Ledger, view_of, ledger_answer, Allowed}
+use Rattle.history.specs.Readings.{ramp_of, ramp_area, words, pixels, reading_at, frame_from}
 use Rattle.history.specs.Demands.{FrameClaim}
 use Rattle.history.proofs.Claims.{word_is, word_claim}
 use Rattle.history.proofs.Invariant.{Good, parts, sides}
 
 module _ {ℓ : Ledger} {allowed : Allowed} (good : Good ℓ allowed)
-    (sums : List ℤ) (output : List ℕ) (taken : refusal ℓ (read_out sums output) ≡ Ok tt) (handed : allowed sums) where
+    (sums : List ℤ) (output : List ℕ) (taken : ledger_answer ℓ (read_out sums output) ≡ Ok tt) (handed : allowed sums) where
   checked : ReadOutTaken (view_of ℓ) sums (length output)
   checked = read_out_taken (view_of ℓ) sums output taken
 
-  full : length ℓ.readings ≡ ℓ.in_force.samples * area ℓ
+  full : length ℓ.readings ≡ ℓ.in_force.samples * ramp_area (ramp_of ℓ)
   full = omega (arith, checked.full, (parts good).fed)
 
   -- each pixel holds the entry of its N samples
-  entry_is : (p : ℕ) → p < area ℓ → get_or sums p (pos 0) ≡ entry_after ℓ.in_force ℓ.in_force.samples (reading_at ℓ p)
+  entry_is : (p : ℕ) → p < ramp_area (ramp_of ℓ) → get_or sums p (pos 0) ≡ entry_after ℓ.in_force ℓ.in_force.samples (reading_at (ramp_of ℓ) p)
   entry_is =
       let r = (parts good).in_force in
-      agrees_full ℓ.in_force r (area ℓ) (sides good).some ℓ.readings sums (good.sums sums handed checked.ramp.length_is)
+      agrees_full ℓ.in_force r (ramp_area (ramp_of ℓ)) (sides good).some ℓ.readings sums (good.sums sums handed checked.ramp.length_is)
       ℓ.in_force.samples r.samples_low full
 
-  pub frame_is : read_out_words (view_of ℓ) sums output ≡ frame_from ℓ
+  pub frame_is : read_out_words (view_of ℓ) sums output ≡ frame_from (ramp_of ℓ)
   unfolding read_out_words frame_of word_at frame_from
   frame_is =
       let z = sides good in
       rw (taken, checked.ramp.length_is)
-      (each_same _ _ (words ℓ) (λ j l.
-      ap (word_of ℓ.in_force.truncation) (map_same _ _ entry_is (pixels ℓ j) (pixels_on _ _ _ z.width.low (λ e. (z.width.even e, z.height.even e)) j l))
-      ∙ word_is ℓ (parts good).in_force (pixels ℓ j)))
+      (each_same _ _ (words (ramp_of ℓ)) (λ j l.
+      ap (word_of ℓ.in_force.truncation) (map_same _ _ entry_is (pixels (ramp_of ℓ) j) (pixels_on _ _ _ z.width.low (λ e. (z.width.even e, z.height.even e)) j l))
+      ∙ word_is (ramp_of ℓ) (parts good).in_force (pixels (ramp_of ℓ) j)))
 
-  pub frame_claim : coverage_of (view_of ℓ) ≡ Ok true → FrameClaim ℓ (read_out_of (view_of ℓ) sums output).answer (read_out_words (view_of ℓ) sums output)
+  pub frame_claim : coverage_of (view_of ℓ) ≡ Ok true → FrameClaim (ramp_of ℓ) (read_out_of (view_of ℓ) sums output).answer (read_out_words (view_of ℓ) sums output)
   unfolding read_out_of frame_from
   frame_claim c = record {
     succeeds = taken;
     complete = full;
-    whole = ap length frame_is ∙ each_length _ (words ℓ);
+    whole = ap length frame_is ∙ each_length _ (words (ramp_of ℓ));
     word = λ j l.
-        rw (frame_is, each_at {A = ℕ} _ (words ℓ) j 0 l)
-        (word_claim ℓ (parts good).in_force ((covered_is (view_of ℓ) good.whole).0 c) (pixels ℓ j) (pixels_some ℓ.sides.width ℓ.sides.binned j));
+        rw (frame_is, each_at {A = ℕ} _ (words (ramp_of ℓ)) j 0 l)
+        (word_claim (ramp_of ℓ) (parts good).in_force ((covered_is (view_of ℓ) good.whole).0 c) (pixels (ramp_of ℓ) j) (pixels_some ℓ.sides.width ℓ.sides.binned j));
   }

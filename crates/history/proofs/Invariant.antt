@@ -23,14 +23,14 @@ use Rattle.operations.specs.Feed.{fed_sums}
 use Rattle.board.proofs.Soundness.{Sound, Sides, sound_parts, sides_of, wanted_nine}
 use Rattle.operations.proofs.FeedChecked.{feed_taken}
 use Rattle.board.proofs.Laws.{laws}
-use Rattle.history.specs.Calls.{Call, update, start, feed, read_out, drop, covered, Ledger, fresh, view_of, refusal, effect, refused_effect, next, Allowed, any_sums, after_taken}
-use Rattle.history.specs.Readings.{area}
-use Rattle.history.proofs.Ledgers.{opened_is, board_is, call_sound}
+use Rattle.history.specs.Calls.{Call, update, start, feed, read_out, drop, ask, Ledger, fresh, view_of, ledger_answer, effect, refused_effect, next, Allowed, any_sums, after_taken, after}
+use Rattle.history.specs.Readings.{ramp_of, ramp_area}
+use Rattle.history.proofs.Ledgers.{shown_by, opened_is, board_is, call_sound}
 
 pub record Good (ℓ : Ledger) (allowed : Allowed) : Type 0 where
   pub whole : sound (view_of ℓ) ≡ true
   pub readings : every reading_in_range ℓ.readings ≡ true
-  pub sums : (σ : List ℤ) → allowed σ → length σ ≡ area ℓ → Agrees ℓ.in_force (area ℓ) ℓ.readings σ
+  pub sums : (σ : List ℤ) → allowed σ → length σ ≡ ramp_area (ramp_of ℓ) → Agrees ℓ.in_force (ramp_area (ramp_of ℓ)) ℓ.readings σ
 
 -- where no reading is fed, any sums agree
 none_fed : (ℓ : Ledger) (allowed : Allowed) → ℓ.readings ≡ [] → sound (view_of ℓ) ≡ true → Good ℓ allowed
@@ -40,7 +40,7 @@ none_fed ℓ allowed e s =
     record {
       whole = s;
       readings = rw e;
-      sums = λ σ a l. rw e (agrees_none ℓ.in_force p.in_force (area ℓ) (sides_of (view_of ℓ) p).some σ l);
+      sums = λ σ a l. rw e (agrees_none ℓ.in_force p.in_force (ramp_area (ramp_of ℓ)) (sides_of (view_of ℓ) p).some σ l);
     }
 
 module _ {ℓ : Ledger} {allowed : Allowed} (good : Good ℓ allowed) where
@@ -51,10 +51,10 @@ module _ {ℓ : Ledger} {allowed : Allowed} (good : Good ℓ allowed) where
   sides = sides_of (view_of ℓ) parts
 
   -- at most nine readings of each pixel
-  pub few : length ℓ.readings ≤ 9 * area ℓ
+  pub few : length ℓ.readings ≤ 9 * ramp_area (ramp_of ℓ)
   few = omega (arith, parts.fed, wanted_nine (view_of ℓ) parts)
 
-  feed_keeps : (xs : List ℕ) (brought : List ℤ) → refusal ℓ (feed xs brought) ≡ Ok tt → sound (view_of (effect ℓ (feed xs brought))) ≡ true
+  feed_keeps : (xs : List ℕ) (brought : List ℤ) → ledger_answer ℓ (feed xs brought) ≡ Ok tt → sound (view_of (effect ℓ (feed xs brought))) ≡ true
       → Good (effect ℓ (feed xs brought)) (after_taken (view_of ℓ) (feed xs brought) allowed)
   unfolding fed_sums
   feed_keeps xs brought t s =
@@ -63,28 +63,29 @@ module _ {ℓ : Ledger} {allowed : Allowed} (good : Good ℓ allowed) where
         whole = s;
         readings = rw every_append (true_and good.readings f.readings);
         sums = λ σ a l.
-            rw (a.1, t, f.ramp.length_is)
-            (agrees_all ℓ.in_force parts.in_force (area ℓ) sides.some ℓ.readings xs brought (good.sums brought a.0 f.ramp.length_is));
+            let is : σ ≡ fed_sums (view_of ℓ) xs brought = a.1 in
+            rw (is, t, f.ramp.length_is)
+            (agrees_all ℓ.in_force parts.in_force (ramp_area (ramp_of ℓ)) sides.some ℓ.readings xs brought (good.sums brought a.0 f.ramp.length_is));
       }
 
   -- the board that it shows is sound
-  taken_keeps : (c : Call) → refusal ℓ c ≡ Ok tt → sound (view_of (effect ℓ c)) ≡ true → Good (effect ℓ c) (after_taken (view_of ℓ) c allowed)
+  taken_keeps : (c : Call) → ledger_answer ℓ c ≡ Ok tt → sound (view_of (effect ℓ c)) ≡ true → Good (effect ℓ c) (after_taken (view_of ℓ) c allowed)
   taken_keeps (update bytes) t s = record { whole = s; readings = good.readings; sums = good.sums }
-  taken_keeps start t s = none_fed (effect ℓ start) any_sums refl s
+  taken_keeps start t s = none_fed (effect ℓ start) _ refl s
   taken_keeps (feed xs sums) t s = feed_keeps xs sums t s
   taken_keeps (read_out sums output) t s = none_fed (effect ℓ (read_out sums output)) allowed refl s
   taken_keeps drop t s = none_fed (effect ℓ drop) allowed refl s
-  taken_keeps covered t s = good
+  taken_keeps (ask question) t s = good
 
-  pub keeps : (c : Call) → Good (next ℓ c) (by_answer (refusal ℓ c) (after_taken (view_of ℓ) c allowed) allowed)
-  keeps c = by (refusal ℓ c) refl (ap sound (sym (board_is ℓ c)) ∙ call_sound (view_of ℓ) c ∙ good.whole)
+  pub keeps : (c : Call) → Good (next ℓ c) (after (shown_by ℓ allowed) c).allowed
+  keeps c = by (ledger_answer ℓ c) refl (ap sound (sym (board_is ℓ c)) ∙ call_sound (view_of ℓ) c ∙ good.whole)
     where
-      by : (a : Answer) → refusal ℓ c ≡ a → sound (view_of (by_answer a (effect ℓ c) (refused_effect ℓ c))) ≡ true
+      by : (a : Answer) → ledger_answer ℓ c ≡ a → sound (view_of (by_answer a (effect ℓ c) (refused_effect ℓ c))) ≡ true
           → Good (by_answer a (effect ℓ c) (refused_effect ℓ c)) (by_answer a (after_taken (view_of ℓ) c allowed) allowed)
       by (Ok tt) t s = taken_keeps c t s
       by (Err r) t s = good
 
-  pub taken_good : (c : Call) → refusal ℓ c ≡ Ok tt → Good (effect ℓ c) (after_taken (view_of ℓ) c allowed)
+  pub taken_good : (c : Call) → ledger_answer ℓ c ≡ Ok tt → Good (effect ℓ c) (after_taken (view_of ℓ) c allowed)
   taken_good c t = rw t at (keeps c)
 
 pub opened_good : (w h : ℕ) (binned : Bool) → (open_of w h binned).answer ≡ Ok tt → Good (fresh w h binned) any_sums

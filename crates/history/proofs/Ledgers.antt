@@ -1,16 +1,19 @@
 -- The board that a ledger shows, and demand 1: a call on it, with a clause for each call.
---     found           what a call finds on it
+--     shown_by        the state of a board that the ledger shows
 --     opened_is       the board that Open gave is the one that the fresh ledger shows
---     answer_is       it answers what the ledger's checks say
+--     answer_is       a call answers what the checks of its board say
 --     board_is        it leaves the board that the next ledger shows
---     gives_is        it gives what the ledger says
+--     given_is        it gives what the ledger says
+--     refused_is      a refused one leaves all as it was
 --     call_sound      it leaves a sound board sound
 use Prim.Native.Nat.{ℕ}
 use mathlib.Core.Bool.{Bool}
-use mathlib.Core.Path.{◌≡◌, refl}
+use mathlib.Core.Path.{◌≡◌, refl, sym, ap, ◌∙◌}
 use lib.ListN.{length-append}
 use Rattle.settings.specs.Covered.{is_covered}
-use Rattle.std.specs.Prelude.{Ok, Err}
+use Rattle.std.specs.Prelude.{Some, Ok, Err}
+use Rattle.std.specs.Result.{result_ok, result_map_both}
+use Rattle.checks.specs.declared.Refusal.{Refusal}
 use Rattle.checks.specs.Checks.{Answer, verdict, by_answer, or_refused}
 use Rattle.board.specs.declared.Board.{Board}
 use Rattle.board.specs.Board.{sound}
@@ -21,56 +24,85 @@ use Rattle.operations.specs.Feed.{feed_of, fed_sums}
 use Rattle.operations.specs.ReadOut.{read_out_of, read_out_words}
 use Rattle.operations.specs.Covered.{covered_checks, coverage_of}
 use Rattle.operations.proofs.Laws.{laws}
-use Rattle.history.specs.Calls.{Call, update, start, feed, read_out, drop, covered, Ledger, fresh, view_of, refusal, effect, next, answer_of, outcome_of, Allowed, Moment}
-use Rattle.history.specs.Demands.{Gives}
+use Rattle.history.specs.Calls.{Question, covered, Call, update, start, feed, read_out, drop, ask, Ledger, fresh, view_of, question_checks, checks, ledger_answer, effect, next, coverage, Given, none_given, given_by_ledger, reply_of, answer_of, outcome_of, given_by_board, Allowed, State}
+use Rattle.history.specs.Demands.{Unchanged}
 
-abbrev pub found : Ledger → Allowed → Call → Moment
-found ℓ allowed c = record { ledger = ℓ; board = view_of ℓ; allowed = allowed; call = c }
+abbrev pub shown_by : Ledger → Allowed → State
+shown_by ℓ allowed = record { ledger = ℓ; board = view_of ℓ; allowed = allowed }
 
 pub opened_is : (w h : ℕ) (binned : Bool) → (open_of w h binned).answer ≡ Ok tt → (open_of w h binned).board ≡ view_of (fresh w h binned)
 unfolding open_of
 opened_is w h binned t = rw t
 
 -- Covered refuses what its checks refuse, whatever it says otherwise
-says_all : (a : Answer) (t : Bool) → answer_of (or_refused a t) ≡ a
-says_all (Ok tt) t = refl
-says_all (Err r) t = refl
+coverage_answer : (a : Answer) (says : Bool) → answer_of (result_map_both coverage (λ r. r) (or_refused a says)) ≡ a
+coverage_answer (Ok tt) says = refl
+coverage_answer (Err r) says = refl
 
-pub answer_is : (ℓ : Ledger) (c : Call) → (outcome_of (view_of ℓ) c).answer ≡ refusal ℓ c
-unfolding update_of start_of feed_of read_out_of drop_of coverage_of
-answer_is ℓ (update bytes) = refl
-answer_is ℓ start = refl
-answer_is ℓ (feed xs sums) = refl
-answer_is ℓ (read_out sums output) = refl
-answer_is ℓ drop = refl
-answer_is ℓ covered = says_all (verdict (covered_checks (view_of ℓ))) (is_covered ℓ.in_force)
+-- a question refuses what its checks refuse
+reply_answer : (b : Board) (q : Question) → answer_of (reply_of b q) ≡ verdict (question_checks b q)
+unfolding coverage_of
+reply_answer b covered = coverage_answer (verdict (covered_checks b)) (is_covered b.in_force)
 
--- what the checks leave of a board is what the ledger shows, where what a taken call leaves is
+pub answer_is : (b : Board) (c : Call) → (outcome_of b c).answer ≡ verdict (checks b c)
+unfolding update_of start_of feed_of read_out_of drop_of
+answer_is b (update bytes) = refl
+answer_is b start = refl
+answer_is b (feed xs sums) = refl
+answer_is b (read_out sums output) = refl
+answer_is b drop = refl
+answer_is b (ask question) = reply_answer b question
+
+-- what an answer chooses from, in a larger term; and where both are the same
+chosen : {A B : Type 0} (f : A → B) (a : Answer) (new old : A) → f (by_answer a new old) ≡ by_answer a (f new) (f old)
+chosen f (Ok tt) new old = refl
+chosen f (Err r) new old = refl
+
+same : {A : Type 0} (a : Answer) (x : A) → x ≡ by_answer a x x
+same (Ok tt) x = refl
+same (Err r) x = refl
+
+-- what an operation leaves of a board is what the ledger shows, where what a taken one leaves is
 shown : {b : Board} (a : Answer) (new old : Ledger) → b ≡ view_of new → by_answer a b (view_of old) ≡ view_of (by_answer a new old)
-shown (Ok tt) new old e = e
-shown (Err r) new old e = refl
-
-unchanged : (a : Answer) (ℓ : Ledger) → view_of ℓ ≡ view_of (by_answer a ℓ ℓ)
-unchanged (Ok tt) ℓ = refl
-unchanged (Err r) ℓ = refl
+shown a new old e = rw e (sym (chosen view_of a new old))
 
 pub board_is : (ℓ : Ledger) (c : Call) → (outcome_of (view_of ℓ) c).board ≡ view_of (next ℓ c)
 unfolding update_of start_of feed_of read_out_of drop_of
-board_is ℓ (update bytes) = shown (refusal ℓ (update bytes)) (effect ℓ (update bytes)) ℓ refl
-board_is ℓ start = shown (refusal ℓ start) (effect ℓ start) ℓ refl
-board_is ℓ (feed xs sums) = shown (refusal ℓ (feed xs sums)) (effect ℓ (feed xs sums)) ℓ (rw length-append)
-board_is ℓ (read_out sums output) = shown (refusal ℓ (read_out sums output)) (effect ℓ (read_out sums output)) ℓ refl
-board_is ℓ drop = shown (refusal ℓ drop) (effect ℓ drop) ℓ refl
-board_is ℓ covered = unchanged (refusal ℓ covered) ℓ
+board_is ℓ (update bytes) = shown (ledger_answer ℓ (update bytes)) (effect ℓ (update bytes)) ℓ refl
+board_is ℓ start = shown (ledger_answer ℓ start) (effect ℓ start) ℓ refl
+board_is ℓ (feed xs sums) = shown (ledger_answer ℓ (feed xs sums)) (effect ℓ (feed xs sums)) ℓ (rw length-append)
+board_is ℓ (read_out sums output) = shown (ledger_answer ℓ (read_out sums output)) (effect ℓ (read_out sums output)) ℓ refl
+board_is ℓ drop = shown (ledger_answer ℓ drop) (effect ℓ drop) ℓ refl
+board_is ℓ (ask question) = ap view_of (same (ledger_answer ℓ (ask question)) ℓ)
 
-pub gives_is : (ℓ : Ledger) (c : Call) → Gives ℓ (view_of ℓ) c
-unfolding fed_sums read_out_words coverage_of
-gives_is ℓ (update bytes) = tt
-gives_is ℓ start = tt
-gives_is ℓ (feed xs sums) = refl
-gives_is ℓ (read_out sums output) = refl
-gives_is ℓ drop = tt
-gives_is ℓ covered = refl
+-- what Covered says, and what it says to a ledger
+coverage_given : (a : Answer) (says : Bool)
+    → record none_given { reply = result_ok (result_map_both coverage (λ r. r) (or_refused a says)) } ≡ by_answer a (record none_given { reply = Some (coverage says) }) none_given
+coverage_given (Ok tt) says = refl
+coverage_given (Err r) says = refl
+
+reply_is : (ℓ : Ledger) (q : Question) → given_by_board (view_of ℓ) (ask q) ≡ given_by_ledger ℓ (ask q)
+unfolding coverage_of
+reply_is ℓ covered = coverage_given (ledger_answer ℓ (ask covered)) (is_covered ℓ.in_force)
+
+pub given_is : (ℓ : Ledger) (c : Call) → given_by_board (view_of ℓ) c ≡ given_by_ledger ℓ c
+unfolding fed_sums read_out_words
+given_is ℓ (update bytes) = same (ledger_answer ℓ (update bytes)) none_given
+given_is ℓ start = same (ledger_answer ℓ start) none_given
+given_is ℓ (feed xs sums) = chosen (λ left. record none_given { sums = Some left }) (ledger_answer ℓ (feed xs sums)) _ sums
+given_is ℓ (read_out sums output) = chosen (λ left. record none_given { sums = Some sums; output = Some left }) (ledger_answer ℓ (read_out sums output)) _ output
+given_is ℓ drop = same (ledger_answer ℓ drop) none_given
+given_is ℓ (ask question) = reply_is ℓ question
+
+-- what a refused call leaves
+pub refused_is : (ℓ : Ledger) (allowed : Allowed) (c : Call) (r : Refusal) → ledger_answer ℓ c ≡ Err r → Unchanged (shown_by ℓ allowed) c
+refused_is ℓ allowed c r e = record {
+  board = board_is ℓ c ∙ rw e;
+  ledger = rw e;
+  sums = ap (λ (g : Given). g.sums) (given_is ℓ c) ∙ rw e;
+  output = ap (λ (g : Given). g.output) (given_is ℓ c) ∙ rw e;
+  allowed = λ sums. rw e ((λ a. a), λ a. a);
+}
 
 pub call_sound : (b : Board) (c : Call) → sound (outcome_of b c).board ≡ sound b
 call_sound b (update bytes) = laws.stays_sound.update b bytes
@@ -78,4 +110,4 @@ call_sound b start = laws.stays_sound.start b
 call_sound b (feed xs sums) = laws.stays_sound.feed b xs sums
 call_sound b (read_out sums output) = laws.stays_sound.read_out b sums output
 call_sound b drop = laws.stays_sound.drop b
-call_sound b covered = refl
+call_sound b (ask question) = refl

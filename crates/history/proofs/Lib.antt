@@ -3,7 +3,7 @@ pub mod Claims
 pub mod Ledgers
 pub mod Places
 pub mod Invariant
-pub mod Honest
+pub mod HandedOn
 pub mod Coverage
 pub mod Frames
 pub mod Lists

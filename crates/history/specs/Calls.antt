@@ -1,18 +1,27 @@
--- A list of calls: the calls, the ledger, and what each call of a list finds.
-use Rattle.std.specs.Prelude.{ℕ, Bool, true, false, List, [], ◌∷◌, ◌++◌, ◌≡◌, ℤ, length, Result, Ok, Err}
+-- The calls on a board, the ledger, and the step that a call takes: what it finds, and what it leaves.
+use Rattle.std.specs.Prelude.{ℕ, Bool, true, false, List, [], ◌++◌, ◌≡◌, ℤ, length, Option, Some, None, Result, Ok, Err}
+use Rattle.std.specs.Result.{result_ok, result_map_both}
 use Rattle.settings.specs.declared.Settings.{Settings}
 use Rattle.settings.specs.Settings.{defaults}
+use Rattle.settings.specs.Covered.{is_covered}
 use Rattle.update.specs.Update.{resulting}
 use Rattle.checks.specs.declared.Refusal.{Refusal}
 use Rattle.checks.specs.Checks.{Answer, verdict, by_answer}
+use Rattle.sums.specs.Feed.{sums_after}
+use Rattle.encoding.specs.Frame.{frame_of}
 use Rattle.sides.specs.declared.Sides.{Sides}
 use Rattle.board.specs.declared.Board.{Board}
 use Rattle.board.specs.Board.{Outcome}
+use Rattle.board.specs.Open.{open_of}
 use Rattle.operations.specs.Update.{update_checks, update_of}
 use Rattle.operations.specs.Ramp.{start_checks, start_of, drop_checks, drop_of}
 use Rattle.operations.specs.Feed.{feed_checks, feed_of, fed_sums}
-use Rattle.operations.specs.ReadOut.{read_out_checks, read_out_of}
+use Rattle.operations.specs.ReadOut.{read_out_checks, read_out_of, read_out_words}
 use Rattle.operations.specs.Covered.{covered_checks, coverage_of}
+
+-- a question: a call that only asks
+pub data Question : Type 0 where
+  covered : Question
 
 -- a call, with everything it brings
 pub data Call : Type 0 where
@@ -21,9 +30,29 @@ pub data Call : Type 0 where
   feed : (readings : List ℕ) (sums : List ℤ) → Call
   read_out : (sums : List ℤ) (output : List ℕ) → Call
   drop : Call
-  covered : Call
+  ask : (question : Question) → Call
 
--- The *ledger* is kept from what the calls bring alone; no answer of the program is in it.
+-- what a call brings, by kind
+pub record Brought : Type 0 where
+  pub bytes : Option (List ℕ)
+  pub readings : Option (List ℕ)
+  pub sums : Option (List ℤ)
+  pub output : Option (List ℕ)
+
+abbrev pub none_brought : Brought
+none_brought = record { bytes = None; readings = None; sums = None; output = None }
+
+abbrev pub brought : Call → Brought
+brought (update bytes) = record none_brought { bytes = Some bytes }
+brought start = none_brought
+brought (feed readings sums) = record none_brought { readings = Some readings; sums = Some sums }
+brought (read_out sums output) = record none_brought { sums = Some sums; output = Some output }
+brought drop = none_brought
+brought (ask question) = none_brought
+
+-- ---- the ledger
+
+-- It is kept from what the calls bring alone; no answer of the program is in it.
 pub record Ledger : Type 0 where
   pub sides : Sides
   pub waiting : Settings
@@ -35,9 +64,20 @@ pub record Ledger : Type 0 where
 abbrev pub fresh : ℕ → ℕ → Bool → Ledger
 fresh width height binned = record { sides = record { width = width; height = height; binned = binned }; waiting = defaults; in_force = defaults; running = false; readings = [] }
 
+-- a ledger with other settings, and with another ramp: all else of it is kept
+abbrev pub with_settings : Settings → Settings → Ledger → Ledger
+with_settings waiting in_force ℓ = record ℓ { waiting = waiting; in_force = in_force }
+
+abbrev pub with_ramp : Bool → List ℕ → Ledger → Ledger
+with_ramp running readings ℓ = record ℓ { running = running; readings = readings }
+
 -- what the checks see of a ledger: a board that was fed as many readings as the ledger holds
 abbrev pub view_of : Ledger → Board
 view_of ℓ = record { sides = ℓ.sides; waiting = ℓ.waiting; in_force = ℓ.in_force; running = ℓ.running; fed = length ℓ.readings }
+
+-- each question's checks
+abbrev pub question_checks : Board → Question → List Answer
+question_checks b covered = covered_checks b
 
 -- each operation's checks
 abbrev pub checks : Board → Call → List Answer
@@ -46,47 +86,92 @@ checks b start = start_checks b
 checks b (feed readings sums) = feed_checks b readings sums
 checks b (read_out sums output) = read_out_checks b sums output
 checks b drop = drop_checks b
-checks b covered = covered_checks b
+checks b (ask question) = question_checks b question
 
 -- the first refusal among the checks, made on the ledger and what the call brings; the call is *taken* where there is none
-abbrev pub refusal : Ledger → Call → Answer
-refusal ℓ c = verdict (checks (view_of ℓ) c)
-
--- the ramp ends, and the readings are emptied
-abbrev pub ending : Ledger → Ledger
-ending ℓ = record { sides = ℓ.sides; waiting = ℓ.waiting; in_force = ℓ.in_force; running = false; readings = [] }
+abbrev pub ledger_answer : Ledger → Call → Answer
+ledger_answer ℓ c = verdict (checks (view_of ℓ) c)
 
 -- what a taken call does: Update writes its fields into the waiting settings; Start copies these in force and begins a ramp; Feed adds its readings at the end;
--- Read out and Drop end the ramp; Covered leaves all as it is
+-- Read out and Drop end the ramp and empty the readings; a question leaves all as it is
 abbrev pub effect : Ledger → Call → Ledger
-effect ℓ (update bytes) = record { sides = ℓ.sides; waiting = resulting bytes ℓ.waiting; in_force = ℓ.in_force; running = ℓ.running; readings = ℓ.readings }
-effect ℓ start = record { sides = ℓ.sides; waiting = ℓ.waiting; in_force = ℓ.waiting; running = true; readings = [] }
-effect ℓ (feed new sums) = record { sides = ℓ.sides; waiting = ℓ.waiting; in_force = ℓ.in_force; running = ℓ.running; readings = ℓ.readings ++ new }
-effect ℓ (read_out sums output) = ending ℓ
-effect ℓ drop = ending ℓ
-effect ℓ covered = ℓ
+effect ℓ (update bytes) = with_settings (resulting bytes ℓ.waiting) ℓ.in_force ℓ
+effect ℓ start = with_ramp true [] (with_settings ℓ.waiting ℓ.waiting ℓ)
+effect ℓ (feed new sums) = with_ramp ℓ.running (ℓ.readings ++ new) ℓ
+effect ℓ (read_out sums output) = with_ramp false [] ℓ
+effect ℓ drop = with_ramp false [] ℓ
+effect ℓ (ask question) = ℓ
 
--- a refused call does nothing
+-- what a refused call does: nothing
 abbrev pub refused_effect : Ledger → Call → Ledger
 refused_effect ℓ c = ℓ
 
 abbrev pub next : Ledger → Call → Ledger
-next ℓ c = by_answer (refusal ℓ c) (effect ℓ c) (refused_effect ℓ c)
+next ℓ c = by_answer (ledger_answer ℓ c) (effect ℓ c) (refused_effect ℓ c)
 
--- ---- the board through the list, by the definitions that the operations' contracts cite
+-- ---- what a call gives beside its answer and the board
 
--- Covered's answer, as the other operations give theirs
-abbrev pub answer_of : Result Bool Refusal → Answer
+-- what a question says
+pub data Reply : Type 0 where
+  coverage : Bool → Reply
+
+-- the buffers that the call brought, as it leaves them, and what a question says
+pub record Given : Type 0 where
+  pub sums : Option (List ℤ)
+  pub output : Option (List ℕ)
+  pub reply : Option Reply
+
+abbrev pub none_given : Given
+none_given = record { sums = None; output = None; reply = None }
+
+-- what a question says, by the ledger
+abbrev pub ledger_reply : Ledger → Question → Reply
+ledger_reply ℓ covered = coverage (is_covered ℓ.in_force)
+
+-- a taken call: a Feed sums up its readings, a Read out makes the frame and only reads the sums, a question replies
+abbrev pub taken_given : Ledger → Call → Given
+taken_given ℓ (update bytes) = none_given
+taken_given ℓ start = none_given
+taken_given ℓ (feed readings sums) = record none_given { sums = Some (sums_after ℓ.in_force (length ℓ.readings) readings sums) }
+taken_given ℓ (read_out sums output) =
+    record none_given { sums = Some sums; output = Some (frame_of ℓ.sides.width ℓ.sides.binned ℓ.in_force.truncation sums) }
+taken_given ℓ drop = none_given
+taken_given ℓ (ask question) = record none_given { reply = Some (ledger_reply ℓ question) }
+
+-- a refused call: the buffers as it brought them, and no reply
+abbrev pub refused_given : Call → Given
+refused_given c = record { sums = (brought c).sums; output = (brought c).output; reply = None }
+
+abbrev pub given_by_ledger : Ledger → Call → Given
+given_by_ledger ℓ c = by_answer (ledger_answer ℓ c) (taken_given ℓ c) (refused_given c)
+
+-- ---- the program, by the definitions that the operations' contracts cite
+
+-- what a question says, or the refusal
+abbrev pub reply_of : Board → Question → Result Reply Refusal
+reply_of b covered = result_map_both coverage (λ r. r) (coverage_of b)
+
+-- a question's answer, as the other operations give theirs
+abbrev pub answer_of : Result Reply Refusal → Answer
 answer_of (Ok says) = Ok tt
 answer_of (Err r) = Err r
 
+-- each call's answer, and the board that it leaves
 abbrev pub outcome_of : Board → Call → Outcome
 outcome_of b (update bytes) = update_of b bytes
 outcome_of b start = start_of b
 outcome_of b (feed readings sums) = feed_of b readings sums
 outcome_of b (read_out sums output) = read_out_of b sums output
 outcome_of b drop = drop_of b
-outcome_of b covered = record { answer = answer_of (coverage_of b); board = b }
+outcome_of b (ask question) = record { answer = answer_of (reply_of b question); board = b }
+
+abbrev pub given_by_board : Board → Call → Given
+given_by_board b (update bytes) = none_given
+given_by_board b start = none_given
+given_by_board b (feed readings sums) = record none_given { sums = Some (fed_sums b readings sums) }
+given_by_board b (read_out sums output) = record none_given { sums = Some sums; output = Some (read_out_words b sums output) }
+given_by_board b drop = none_given
+given_by_board b (ask question) = record none_given { reply = result_ok (reply_of b question) }
 
 -- ---- the sums of a ramp
 
@@ -102,23 +187,27 @@ any_sums sums = Unit {0}
 abbrev pub after_taken : Board → Call → Allowed → Allowed
 after_taken b (update bytes) allowed = allowed
 after_taken b start allowed = any_sums
-after_taken b (feed readings brought) allowed = λ sums. allowed brought × (sums ≡ fed_sums b readings brought)
-after_taken b (read_out brought output) allowed = allowed
+after_taken b (feed readings before) allowed = λ sums. allowed before × (sums ≡ fed_sums b readings before)
+after_taken b (read_out before output) allowed = allowed
 after_taken b drop allowed = allowed
-after_taken b covered allowed = allowed
+after_taken b (ask question) allowed = allowed
 
--- ---- the list
+-- ---- one step of a list
 
--- what a call of a list finds: the ledger, the board, and which sums are allowed
-pub record Moment : Type 1 where
+-- what a call finds: the ledger, the board, and which sums are allowed
+pub record State : Type 1 where
   pub ledger : Ledger
   pub board : Board
   pub allowed : Allowed
-  pub call : Call
 
--- each call gets the board that the call before left
-unfoldable pub moments : Ledger → Board → Allowed → List Call → List Moment
-moments ℓ b allowed [] = []
-moments ℓ b allowed (c ∷ calls) =
-    record { ledger = ℓ; board = b; allowed = allowed; call = c }
-    ∷ moments (next ℓ c) (outcome_of b c).board (by_answer (refusal ℓ c) (after_taken b c allowed) allowed) calls
+-- what it leaves: the next call gets the board that this one left
+abbrev pub after : State → Call → State
+after at c = record {
+  ledger = next at.ledger c;
+  board = (outcome_of at.board c).board;
+  allowed = by_answer (ledger_answer at.ledger c) (after_taken at.board c at.allowed) at.allowed;
+}
+
+-- a board that Open gave
+abbrev pub opening : ℕ → ℕ → Bool → State
+opening width height binned = record { ledger = fresh width height binned; board = (open_of width height binned).board; allowed = any_sums }

@@ -1,9 +1,11 @@
--- Ramps with known words, in one table that one statement covers.
-use Rattle.std.specs.Prelude.{ℕ, Bool, true, false, List, [], ◌∷◌, ◌≡◌, ℤ, pos, neg_ℤ, replicate, set, Ok}
+-- Ramps with known words, which refusals may have a place, and which calls anyone can make, in one table that one statement covers.
+use Rattle.std.specs.Prelude.{ℕ, Bool, true, false, List, [], ◌∷◌, ◌≡◌, ℤ, pos, neg_ℤ, replicate, set, Ok, Err}
 use Rattle.laws.specs.Tables.{AllHold}
 use Rattle.settings.specs.declared.Settings.{Settings}
 use Rattle.settings.specs.Settings.{defaults, with_weights, with_threshold, with_truncation, with_samples}
 use Rattle.settings.specs.Covered.{is_covered}
+use Rattle.checks.specs.declared.Reason.{Reason}
+use Rattle.checks.specs.declared.Reason.TheVariants.{BadSides, TooManyReadings, ReadingRange, EntryNotPossible, ReadingsWanted, UnsoundBoard}
 use Rattle.entries.specs.Mark.{mark}
 use Rattle.sums.specs.Feed.{sums_after}
 use Rattle.sums.specs.Exact.{reading_of, exact_sum}
@@ -11,12 +13,18 @@ use Rattle.meaning.specs.declared.WordRead.{WordRead}
 use Rattle.meaning.specs.declared.WordRead.TheVariants.{Ordinary, Saturated, Negative}
 use Rattle.encoding.specs.Word.{word_of}
 use Rattle.meaning.specs.Meaning.{limit, read_word}
+use Rattle.history.specs.Calls.{Call, update, feed, read_out}
+use Rattle.history.specs.Demands.{Placed, passable}
 
 -- Of one pixel's ramp: the settings and the readings; the exact sum, the entry that they leave, its word and what that reads as; and whether the settings are
--- covered. Of a square: its four entries, its word at the default r, and what that reads as.
+-- covered. Of a square: its four entries, its word at the default r, and what that reads as. Of a reason: whether its refusal may have place 1. Of a
+-- call: whether anyone can make it.
 pub data Known : Type 0 where
   ramp : (s : Settings) (readings : List ℕ) (sum entry : ℤ) (word : ℕ) (reads : WordRead) (covered : Bool) → Known
   square : (entries : List ℤ) (word : ℕ) (reads : WordRead) → Known
+  with_place : Reason → Known
+  without_place : Reason → Known
+  call : (c : Call) (can_be_made : Bool) → Known
 
 -- a row follows from the definitions, whatever the pixel's entry held before
 abbrev pub Holds : Known → Type 0
@@ -27,6 +35,9 @@ Holds (ramp s readings sum entry word reads covered) =
     × (read_word s.truncation word ≡ Ok reads)
     × (is_covered s ≡ covered)
 Holds (square entries word reads) = (word_of defaults.truncation entries ≡ word) × (read_word defaults.truncation word ≡ Ok reads)
+Holds (with_place reason) = Placed (Err (record { reason = reason; place = 1 }))
+Holds (without_place reason) = Placed (Err (record { reason = reason; place = 1 })) → ⊥
+Holds (call c can_be_made) = passable c ≡ can_be_made
 
 -- the defaults, save for N = 1 and weight 1
 abbrev single : ℤ → Settings
@@ -43,8 +54,10 @@ table =
     ∷ ramp defaults (900 ∷ 800 ∷ 700 ∷ 600 ∷ 500 ∷ 400 ∷ 300 ∷ 200 ∷ 100 ∷ []) (neg_ℤ (pos 5872)) (neg_ℤ (pos 5872)) 32767 Negative true
     ∷ ramp (with_threshold 13000 defaults) (13000 ∷ 13000 ∷ 13001 ∷ 13000 ∷ 13000 ∷ 13000 ∷ 13001 ∷ 13000 ∷ 13000 ∷ []) (pos 128) (mark 3) 32755 (Saturated 3) true
     ∷ ramp (with_threshold 13000 defaults) (replicate 9 13000) (pos 128) (pos 128) 32 (Ordinary (limit 128) (limit 132)) true
+    ∷ ramp (with_threshold 13000 defaults) (13000 ∷ 13000 ∷ 13000 ∷ 13000 ∷ 13001 ∷ 13000 ∷ 13000 ∷ 13000 ∷ 13000 ∷ []) (pos 128) (mark 5) 32757 (Saturated 5) true
     ∷ ramp (single (neg_ℤ (pos 1))) (128 ∷ []) (pos 0) (pos 0) 0 (Ordinary (limit 0) (limit 4)) true
     ∷ ramp (single (neg_ℤ (pos 1))) (129 ∷ []) (neg_ℤ (pos 1)) (neg_ℤ (pos 1)) 32767 Negative true
+    ∷ ramp (all15 1) (replicate 9 16383) (pos 2211833) (pos 2211833) 24572 (Ordinary (limit 49144) (limit 49146)) false
     ∷ ramp (all15 2) (replicate 9 16383) (pos 2211833) (pos 2211833) 28670 (Ordinary (limit 114680) (limit 114684)) false
     ∷ ramp (all15 3) (replicate 9 16383) (pos 2211833) (pos 2211833) 14335 (Ordinary (limit 114680) (limit 114688)) false
     ∷ ramp (single (pos 15)) (8726 ∷ []) (pos 131018) (pos 131018) 32754 (Saturated 2) false
@@ -52,6 +65,20 @@ table =
     ∷ square (neg_ℤ (pos 1) ∷ pos 0 ∷ pos 0 ∷ pos 0 ∷ []) 32767 Negative
     ∷ square (neg_ℤ (pos 1) ∷ pos 0 ∷ pos 0 ∷ pos 2 ∷ []) 0 (Ordinary (limit 0) (limit 4))
     ∷ square (mark 5 ∷ mark 2 ∷ neg_ℤ (pos 10) ∷ neg_ℤ (pos 10) ∷ []) 32754 (Saturated 2)
+    ∷ without_place BadSides
+    ∷ without_place TooManyReadings
+    ∷ with_place ReadingRange
+    ∷ with_place EntryNotPossible
+    ∷ without_place ReadingsWanted
+    ∷ without_place UnsoundBoard
+    ∷ call (update (255 ∷ [])) true
+    ∷ call (update (256 ∷ [])) false
+    ∷ call (feed (65535 ∷ []) (pos 2147483647 ∷ [])) true
+    ∷ call (feed (65536 ∷ []) []) false
+    ∷ call (feed [] (pos 2147483648 ∷ [])) false
+    ∷ call (read_out (neg_ℤ (pos 2147483648) ∷ []) (65535 ∷ [])) true
+    ∷ call (read_out (neg_ℤ (pos 2147483649) ∷ []) []) false
+    ∷ call (read_out [] (65536 ∷ [])) false
     ∷ []
 
 -- every row follows from the definitions

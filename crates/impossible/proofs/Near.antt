@@ -32,7 +32,7 @@ use Rattle.laws.proofs.Tests.{clash, cases, and_true, true_and, and_right, and_a
 use Rattle.laws.proofs.Ints.{up, dn, sum, neg_up, neg_dn, is_le, is_lt, lt_true, fitted, signed}
 use Rattle.entries.specs.Mark.{mark, marked}
 use Rattle.entries.specs.Possible.{max_product, possible_after}
-use Rattle.impossible.specs.Near.{moved, is_near, nearness}
+use Rattle.impossible.specs.SupportNear.{moved, is_near, nearness}
 use Rattle.entries.proofs.Possible.{is_fair}
 
 pub every_fold : {A : Type 0} (f : A → Bool) (ok : Bool) (l : List A) → fold (λ good x. good && f x) ok l ≡ (ok && every f l)

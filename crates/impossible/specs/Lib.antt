@@ -1,2 +1,2 @@
 -- A quicker test of entries.
-pub mod Near
+pub mod SupportNear

@@ -7,7 +7,7 @@ use mir.Syntax.{w32}
 use mir.Val.{to_z, of_z}
 use mir.Facts.{to_z-of_z}
 use Rattle.laws.proofs.Ints.{fits}
-use Rattle.entries.specs.Range.{entry_in_range}
+use Rattle.entries.specs.SupportRange.{entry_in_range}
 use Rattle.entries.proofs.Range.{range}
 
 pub held : (e : ℤ) → entry_in_range e ≡ true → to_z w32 (of_z w32 e) ≡ e

@@ -13,7 +13,7 @@ use Rattle.laws.proofs.Numbers.{quotient, rest, room}
 use Rattle.laws.proofs.Parts.{part_at}
 use Rattle.encoding.specs.Frame.{pixels_of, word_at}
 use Rattle.encoding.proofs.Grid.{sides}
-use Rattle.layout.specs.Requires.{row_word}
+use Rattle.layout.specs.SupportRequires.{row_word}
 
 module _ (w h row i r : ℕ) (sums : List ℤ) (hw : w ≡ 2 * h) (hh : w / 2 ≡ h) (hi : i < h) where
   odd : (2 * row + 1) * w ≡ 2 * row * w + w

@@ -1,2 +1,2 @@
 -- What the passes over a frame require.
-pub mod Requires
+pub mod SupportRequires

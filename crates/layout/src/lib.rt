@@ -7,24 +7,24 @@ ghost use Rattle.std.specs.Prelude.{◌≡◌, true, false, ℕ, ◌*◌, pos, l
 ghost use Rattle.laws.specs.Lists.{each};
 ghost use Rattle.settings.specs.Settings.{truncation_in_range};
 ghost use Rattle.encoding.specs.Frame.{frame_of};
-ghost use Rattle.entries.specs.Range.{entry_in_range};
-ghost use Rattle.layout.specs.Requires.{Readable, row_word};
+ghost use Rattle.entries.specs.SupportRange.{entry_in_range};
+ghost use Rattle.layout.specs.SupportRequires.{Readable, row_word};
 
 use sides::Sides;
 use words::{pixel_word, square_word};
 
 // A word for each pixel. No zip here and below: of what is written through one a proof knows the length alone.
-fn write_pixels(sums: &[i32], words: &mut [u16], sides: Sides, truncation: u16)
+fn write_pixels(sides: Sides, truncation: u16, sums: &[i32], words: &mut [u16])
     requires { Readable sides.width sides.height false truncation sums.now words.old }
     ensures { words.new ≡ frame_of sides.width false truncation sums.now }
 {
     for (i, word) in words.iter_mut().enumerate() {
-        *word = pixel_word(sums[i], truncation);
+        *word = pixel_word(truncation, sums[i]);
     }
 }
 
 // A row of squares: two rows of sums, each twice as long.
-fn write_row(upper: &[i32], lower: &[i32], words: &mut [u16], truncation: u16)
+fn write_row(truncation: u16, upper: &[i32], lower: &[i32], words: &mut [u16])
     requires upper_len { (length upper.now ≡ 2 * length words.old) × (length lower.now ≡ 2 * length words.old) }
     requires by_index { (p : ℕ) → entry_in_range (get_or upper.now p (pos 0)) ≡ true }
     requires by_index_2 { (p : ℕ) → entry_in_range (get_or lower.now p (pos 0)) ≡ true }
@@ -33,12 +33,12 @@ fn write_row(upper: &[i32], lower: &[i32], words: &mut [u16], truncation: u16)
 {
     for (i, word) in words.iter_mut().enumerate() {
         let k = 2 * i;
-        *word = square_word(upper[k], upper[k + 1], lower[k], lower[k + 1], truncation);
+        *word = square_word(truncation, upper[k], upper[k + 1], lower[k], lower[k + 1]);
     }
 }
 
 // A word for each square, by pairs of rows; by index, since chunks may not be empty and a width of 0 is not ruled out.
-fn write_squares(sums: &[i32], words: &mut [u16], sides: Sides, truncation: u16)
+fn write_squares(sides: Sides, truncation: u16, sums: &[i32], words: &mut [u16])
     requires { Readable sides.width sides.height true truncation sums.now words.old }
     ensures { words.new ≡ frame_of sides.width true truncation sums.now }
 {
@@ -49,22 +49,22 @@ fn write_squares(sums: &[i32], words: &mut [u16], sides: Sides, truncation: u16)
         let middle = at + width;
         let to = row * half;
         write_row(
+            truncation,
             &sums[at..middle],
             &sums[middle..middle + width],
             &mut words[to..to + half],
-            truncation,
         );
     }
 }
 
 /// The frame of the sums, of pixels or of squares.
-pub fn write_frame(sums: &[i32], words: &mut [u16], sides: Sides, truncation: u16)
+pub fn write_frame(sides: Sides, truncation: u16, sums: &[i32], words: &mut [u16])
     requires { Readable sides.width sides.height sides.binned truncation sums.now words.old }
     ensures { words.new ≡ frame_of sides.width sides.binned truncation sums.now }
 {
     if sides.binned {
-        write_squares(sums, words, sides, truncation);
+        write_squares(sides, truncation, sums, words);
     } else {
-        write_pixels(sums, words, sides, truncation);
+        write_pixels(sides, truncation, sums, words);
     }
 }

@@ -14,7 +14,7 @@ use Rattle.checks.proofs.Laws.{verdict_append, when_taken, found_taken}
 use Rattle.checks.proofs.Search.{found_every, none_every}
 use Rattle.readings.specs.Readings.{reading_in_range}
 use Rattle.entries.specs.Possible.{possible}
-use Rattle.written.specs.Written.{not_possible_at}
+use Rattle.written.specs.Written.{impossible_at}
 use Rattle.board.specs.declared.Board.{Board}
 use Rattle.board.specs.Board.{wanted}
 use Rattle.board.specs.RampChecks.{ramp_checks}
@@ -26,7 +26,7 @@ pub record FeedTaken (b : Board) (xs : List ℕ) (sums : List ℤ) : Type 0 wher
   pub ramp : RampTaken b (length sums)
   pub room : b.fed + length xs ≤ wanted b
   pub readings : every reading_in_range xs ≡ true
-  pub entries : first_place (length sums) (not_possible_at (pos 0) (possible b.in_force) (length sums) b.fed (length xs) sums) ≡ None
+  pub entries : first_place (length sums) (impossible_at (pos 0) (possible b.in_force) (length sums) b.fed (length xs) sums) ≡ None
 
 pub feed_taken : (b : Board) (xs : List ℕ) (sums : List ℤ) → verdict (feed_checks b xs sums) ≡ Ok tt → FeedTaken b xs sums
 feed_taken b xs sums e =

@@ -30,8 +30,9 @@ unfolding start_of feed_of read_out_of drop_of coverage_of verdict first_place s
 known = record {
   updates_known = updates_known;
   starts_known = refl then refl then refl then tt;
-  feeds_known = refl then refl then refl then refl then refl then refl then refl then refl then refl then refl then refl then refl then refl then refl then refl then refl then refl then refl then refl then refl then refl then refl then refl then refl then refl then refl then tt;
-  read_outs_known = refl then refl then refl then refl then refl then refl then refl then refl then refl then refl then refl then refl then refl then refl then tt;
+  feeds_known = refl then refl then refl then refl then refl then refl then refl then refl then refl then refl then refl then refl then refl then refl then refl then refl then refl then refl then refl then refl then refl then refl then refl then refl then refl then refl then refl then refl then tt;
+  read_outs_known = refl then refl then refl then refl then refl then refl then refl then refl then refl then refl then refl then refl then refl then refl then refl then refl then refl then refl then refl then refl then refl then tt;
   drops_known = refl then refl then refl then refl then tt;
-  coverages_known = refl then refl then refl then refl then tt;
+  coverages_known = refl then refl then refl then refl then refl then refl then refl then refl then refl then tt;
+  boards_known = refl then refl then refl then refl then refl then refl then refl then refl then tt;
 }

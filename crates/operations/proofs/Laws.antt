@@ -43,15 +43,15 @@ waiting_sound : (b : Board) (t : Settings) → InRange t → Sound b → Sound (
 waiting_sound b t r s = record { sides = s.sides; waiting = r; in_force = s.in_force; fed = s.fed; idle = s.idle }
 
 -- the settings of a taken record are in range
-resulting_in_range : (s : Settings) (bytes : List ℕ) → InRange s → (SettingsUpdate.update_of s bytes).answer ≡ Ok tt → InRange (SettingsUpdate.resulting bytes s)
-unfolding SettingsUpdate.update_of
+resulting_in_range : (s : Settings) (bytes : List ℕ) → InRange s → (SettingsUpdate.apply_record s bytes).answer ≡ Ok tt → InRange (SettingsUpdate.resulting bytes s)
+unfolding SettingsUpdate.apply_record
 resulting_in_range s bytes r e =
     in_range_parts _ (rw e at ((UpdateLaws.laws).stays_in_range s bytes (in_range_whole s r)))
 
 update_sound : (b : Board) (bytes : List ℕ) → sound (update_of b bytes).board ≡ sound b
 unfolding update_of verdict
 update_sound b bytes =
-    let answer = (SettingsUpdate.update_of b.waiting bytes).answer in
+    let answer = (SettingsUpdate.apply_record b.waiting bytes).answer in
     stays b _ (answer ∷ [])
     (λ s e. waiting_sound b _ (resulting_in_range b.waiting bytes s.waiting (both_taken answer (Ok tt) (both_taken (unsound b) (verdict (answer ∷ [])) e).1).0) s)
 
@@ -129,6 +129,6 @@ laws = record {
   drop_keeps = λ b. same_settings (verdict (drop_checks b)) b (ended b) (refl, refl);
   empty_feed = empty_feed;
   one_by_one = one_by_one;
-  any_cut = any_cut one_by_one;
+  any_cut = any_cut;
   taken_in_any_cut = taken_in_any_cut;
 }

@@ -14,7 +14,7 @@ use Rattle.checks.proofs.Search.{found_every, none_every}
 use Rattle.entries.specs.Possible.{possible}
 use Rattle.encoding.specs.Frame.{word_count}
 use Rattle.board.specs.declared.Board.{Board}
-use Rattle.board.specs.Board.{area, wanted}
+use Rattle.board.specs.Board.{board_area, wanted}
 use Rattle.board.specs.RampChecks.{ramp_checks}
 use Rattle.board.proofs.Checked.{RampTaken, ramp_taken, ramp_passes, all_taken}
 use Rattle.operations.specs.ReadOut.{read_out_checks}
@@ -22,7 +22,7 @@ use Rattle.operations.specs.ReadOut.{read_out_checks}
 pub record ReadOutTaken (b : Board) (sums : List ℤ) (outputLength : ℕ) : Type 0 where
   pub ramp : RampTaken b (length sums)
   pub full : wanted b ≤ b.fed
-  pub room : outputLength ≡ word_count b.sides.binned (area b)
+  pub room : outputLength ≡ word_count b.sides.binned (board_area b)
   pub entries : every (possible b.in_force b.in_force.samples) sums ≡ true
 
 pub read_out_taken : (b : Board) (sums : List ℤ) (output : List ℕ) → verdict (read_out_checks b sums output) ≡ Ok tt → ReadOutTaken b sums (length output)

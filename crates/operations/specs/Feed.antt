@@ -6,9 +6,9 @@ use Rattle.checks.specs.Checks.{Answer, when, found, verdict, by_answer}
 use Rattle.readings.specs.Readings.{reading_in_range}
 use Rattle.entries.specs.Possible.{possible}
 use Rattle.sums.specs.Feed.{sums_after}
-use Rattle.written.specs.Written.{not_possible_at}
+use Rattle.written.specs.Written.{impossible_at}
 use Rattle.board.specs.declared.Board.{Board}
-use Rattle.board.specs.Board.{Outcome, wanted, leaves}
+use Rattle.board.specs.Board.{Outcome, wanted, with_ramp, leaves}
 use Rattle.board.specs.RampChecks.{ramp_checks}
 
 -- 12: the ramp wants fewer readings than come. 13: a reading is above 16,383; the place is the index of the first in the readings. 14: an entry that this ramp
@@ -17,7 +17,7 @@ abbrev pub reading_checks : Board → List ℕ → List ℤ → List Answer
 reading_checks b readings sums =
     when (ltb (wanted b) (b.fed + length readings)) TooManyReadings
     ∷ found (first_place (length readings) (λ i. not (reading_in_range (get_or readings i 0)))) ReadingRange
-    ∷ found (first_place (length sums) (not_possible_at (pos 0) (possible b.in_force) (length sums) b.fed (length readings) sums)) EntryNotPossible
+    ∷ found (first_place (length sums) (impossible_at (pos 0) (possible b.in_force) (length sums) b.fed (length readings) sums)) EntryNotPossible
     ∷ []
 
 abbrev pub feed_checks : Board → List ℕ → List ℤ → List Answer
@@ -25,7 +25,7 @@ feed_checks b readings sums = ramp_checks b (length sums) ++ reading_checks b re
 
 -- more readings are fed
 abbrev pub extended : ℕ → Board → Board
-extended count b = record { sides = b.sides; waiting = b.waiting; in_force = b.in_force; running = b.running; fed = b.fed + count }
+extended count b = with_ramp b.running (b.fed + count) b
 
 unfoldable pub feed_of : Board → List ℕ → List ℤ → Outcome
 feed_of b readings sums = leaves (verdict (feed_checks b readings sums)) (extended (length readings) b) b

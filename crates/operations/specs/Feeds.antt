@@ -3,7 +3,7 @@ use Rattle.std.specs.Prelude.{ℕ, ◌<◌, List, [], ◌∷◌, map, ◌≡◌,
 use Rattle.step.specs.Step.{step}
 use Rattle.sums.specs.Feed.{pixel_of_reading, sample_of_reading}
 use Rattle.board.specs.declared.Board.{Board}
-use Rattle.board.specs.Board.{area}
+use Rattle.board.specs.Board.{board_area}
 use Rattle.operations.specs.Feed.{feed_of, fed_sums}
 
 -- a board, and the sums that are lent to it
@@ -35,10 +35,10 @@ singly readings = map (λ x. x ∷ []) readings
 
 -- the pixel and the sample of the reading that comes next: its number, from 0, is how many are fed
 abbrev pub next_pixel : Board → ℕ
-next_pixel b = pixel_of_reading (area b) b.fed
+next_pixel b = pixel_of_reading (board_area b) b.fed
 
 abbrev pub next_sample : Board → ℕ
-next_sample b = sample_of_reading (area b) b.fed
+next_sample b = sample_of_reading (board_area b) b.fed
 
 -- Feed of the one reading x
 pub record WritesOne (before : BoardAndSums) (x : ℕ) : Type 0 where

@@ -2,22 +2,21 @@
 -- each side of a bound.
 use Rattle.std.specs.Prelude.{ℕ, true, false, List, [], ◌∷◌, ◌≡◌, ℤ, pos, neg_ℤ, replicate, Result, Bool, Ok, Err}
 use Rattle.laws.specs.Tables.{AllHold}
-use Rattle.settings.specs.Settings.{defaults, with_threshold, with_samples}
+use Rattle.settings.specs.Settings.{defaults, with_weights, with_threshold, with_truncation, with_samples}
 use Rattle.checks.specs.declared.Reason.{Reason}
 use Rattle.checks.specs.declared.Reason.TheVariants.{ShortRecord, RampRunning, NoRamp, SumsLength, TooManyReadings, ReadingRange, EntryNotPossible, ReadingsWanted, WordsLength, UnsoundBoard}
 use Rattle.checks.specs.declared.Refusal.{Refusal}
 use Rattle.checks.specs.Checks.{Answer, refusal}
 use Rattle.entries.specs.Mark.{mark}
 use Rattle.board.specs.declared.Board.{Board}
-use Rattle.board.specs.Board.{opened}
-use Rattle.board.specs.Known.{with_settings, with_ramp}
+use Rattle.board.specs.Board.{Outcome, opened, with_settings, with_ramp}
 use Rattle.operations.specs.Update.{update_of}
 use Rattle.operations.specs.Ramp.{start_of, drop_of}
 use Rattle.operations.specs.Feed.{feed_of}
 use Rattle.operations.specs.ReadOut.{read_out_of}
 use Rattle.operations.specs.Covered.{coverage_of}
 
--- a call on a board, and its answer
+-- a call on a board, and its answer; and the board that a call leaves
 pub data Known : Type 0 where
   update : (b : Board) (bytes : List ℕ) (answer : Answer) → Known
   start : (b : Board) (answer : Answer) → Known
@@ -25,8 +24,9 @@ pub data Known : Type 0 where
   read_out : (b : Board) (sums : List ℤ) (output : List ℕ) (answer : Answer) → Known
   drop : (b : Board) (answer : Answer) → Known
   covered : (b : Board) (says : Result Bool Refusal) → Known
+  leaves : (outcome : Outcome) (left : Board) → Known
 
--- the answer follows from the definitions
+-- it follows from the definitions
 abbrev pub Holds : Known → Type 0
 Holds (update b bytes answer) = (update_of b bytes).answer ≡ answer
 Holds (start b answer) = (start_of b).answer ≡ answer
@@ -34,6 +34,7 @@ Holds (feed b readings sums answer) = (feed_of b readings sums).answer ≡ answe
 Holds (read_out b sums output answer) = (read_out_of b sums output).answer ≡ answer
 Holds (drop b answer) = (drop_of b).answer ≡ answer
 Holds (covered b says) = coverage_of b ≡ says
+Holds (leaves outcome left) = outcome.board ≡ left
 
 -- refused for a reason at a place
 abbrev at : Reason → ℕ → Answer
@@ -118,6 +119,9 @@ feeds =
     ∷ feed (two 2) (0 ∷ []) (pos 0 ∷ pos 245874 ∷ []) (Ok tt)
     ∷ feed (two 2) (0 ∷ 0 ∷ []) (pos 0 ∷ pos 245874 ∷ []) (at EntryNotPossible 1)
     ∷ feed (two 3) (0 ∷ 0 ∷ []) (pos 491619 ∷ pos 245874 ∷ []) (at EntryNotPossible 0)
+    -- k is what it was when the call came, of all its readings
+    ∷ feed (fed 1) (0 ∷ 0 ∷ []) (pos 245874 ∷ []) (at EntryNotPossible 0)
+    ∷ feed (fed 1) (0 ∷ 0 ∷ []) (mark 2 ∷ []) (at EntryNotPossible 0)
     ∷ []
 
 abbrev pub read_outs : List Known
@@ -130,6 +134,8 @@ read_outs =
     ∷ read_out (fed 9) (pos 2211834 ∷ []) [] (at WordsLength 0)
     ∷ read_out (fed 9) (pos 2211834 ∷ []) (0 ∷ []) (at EntryNotPossible 0)
     ∷ read_out (fed 9) (pos 2211833 ∷ []) (0 ∷ []) (Ok tt)
+    -- 11: a sum too many
+    ∷ read_out (fed 9) (pos 0 ∷ pos 0 ∷ []) (0 ∷ []) (at SumsLength 0)
     -- 16: a word too many; a square has one word
     ∷ read_out (fed 9) (pos 0 ∷ []) (0 ∷ 0 ∷ []) (at WordsLength 0)
     ∷ read_out square (replicate 4 (pos 0)) (0 ∷ []) (Ok tt)
@@ -137,6 +143,12 @@ read_outs =
     -- 14: k is the N in force
     ∷ read_out short (pos 245873 ∷ []) (0 ∷ []) (Ok tt)
     ∷ read_out short (pos 245874 ∷ []) (0 ∷ []) (at EntryNotPossible 0)
+    ∷ read_out (fed 9) (neg_ℤ (pos 2211577) ∷ []) (0 ∷ []) (Ok tt)
+    ∷ read_out (fed 9) (neg_ℤ (pos 2211578) ∷ []) (0 ∷ []) (at EntryNotPossible 0)
+    ∷ read_out (fed 9) (mark 9 ∷ []) (0 ∷ []) (Ok tt)
+    ∷ read_out (fed 9) (mark 10 ∷ []) (0 ∷ []) (at EntryNotPossible 0)
+    ∷ read_out short (mark 1 ∷ []) (0 ∷ []) (Ok tt)
+    ∷ read_out short (mark 2 ∷ []) (0 ∷ []) (at EntryNotPossible 0)
     -- the first of two, and the last entry too
     ∷ read_out (two 18) (pos 2211834 ∷ pos 2211834 ∷ []) (0 ∷ 0 ∷ []) (at EntryNotPossible 0)
     ∷ read_out (two 18) (pos 0 ∷ pos 2211834 ∷ []) (0 ∷ 0 ∷ []) (at EntryNotPossible 1)
@@ -158,6 +170,26 @@ coverages =
     -- the settings in force, with others waiting
     ∷ covered (with_settings defaults (with_threshold 13088 defaults) idle) (Ok false)
     ∷ covered (with_settings (with_threshold 13088 defaults) defaults idle) (Ok true)
+    -- r = 1 and r = 3; only the weights up to N
+    ∷ covered (with_settings defaults (with_truncation 1 (with_threshold 6537 defaults)) idle) (Ok true)
+    ∷ covered (with_settings defaults (with_truncation 1 (with_threshold 6538 defaults)) idle) (Ok false)
+    ∷ covered (with_settings defaults (with_truncation 3 (with_threshold 1939 (with_weights (replicate 9 (pos 15)) defaults))) idle) (Ok true)
+    ∷ covered (with_settings defaults (with_truncation 3 (with_threshold 1940 (with_weights (replicate 9 (pos 15)) defaults))) idle) (Ok false)
+    ∷ covered (with_settings defaults (with_samples 8 (with_threshold 16383 defaults)) idle) (Ok true)
+    ∷ []
+
+-- Start begins a ramp by the waiting settings, with nothing fed; Feed counts its readings; Read out and Drop end the ramp and keep both settings; what is
+-- refused leaves the board
+abbrev pub boards : List Known
+boards =
+    leaves (start_of (with_settings (with_threshold 1 defaults) defaults idle)) (with_settings (with_threshold 1 defaults) (with_threshold 1 defaults) (fed 0))
+    ∷ leaves (start_of (fed 4)) (fed 4)
+    ∷ leaves (feed_of (fed 2) (0 ∷ 0 ∷ []) (pos 0 ∷ [])) (fed 4)
+    ∷ leaves (feed_of (fed 9) (0 ∷ []) (pos 0 ∷ [])) (fed 9)
+    ∷ leaves (read_out_of short (pos 0 ∷ []) (0 ∷ [])) (with_settings defaults (with_samples 1 defaults) idle)
+    ∷ leaves (read_out_of (fed 8) (pos 0 ∷ []) (0 ∷ [])) (fed 8)
+    ∷ leaves (drop_of short) (with_settings defaults (with_samples 1 defaults) idle)
+    ∷ leaves (drop_of idle) idle
     ∷ []
 
 -- every row follows from the definitions
@@ -168,3 +200,4 @@ pub record AllKnown : Type 0 where
   pub read_outs_known : AllHold Holds read_outs
   pub drops_known : AllHold Holds drops
   pub coverages_known : AllHold Holds coverages
+  pub boards_known : AllHold Holds boards

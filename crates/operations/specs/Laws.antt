@@ -53,9 +53,8 @@ pub record OperationLaws : Type 0 where
       → (feed_of b [] sums ≡ record { answer = Ok tt; board = b }) × (fed_sums b [] sums ≡ sums)
   -- a taken Feed leaves the board and sums that the Feeds of its readings one at a time leave: all of these are taken, and each writes its one entry
   pub one_by_one : (before : BoardAndSums) (readings : List ℕ) → TakesFeed before readings → OneByOne before readings
-  -- two ways to cut the same readings into taken Feeds leave the same board and sums
-  pub any_cut : (before : BoardAndSums) (cut other : List (List ℕ)) → joined cut ≡ joined other → TakesFeeds before cut → TakesFeeds before other
-      → after_feeds before cut ≡ after_feeds before other
+  -- where the Feeds of one cut are taken, any other cut of the same readings into Feeds leaves the same board and sums
+  pub any_cut : (before : BoardAndSums) (cut other : List (List ℕ)) → joined cut ≡ joined other → TakesFeeds before cut → after_feeds before cut ≡ after_feeds before other
   -- where all Feeds of one cut are taken, those of any other are; the board has to take an empty Feed, which another cut may hold
   pub taken_in_any_cut : (before : BoardAndSums) (cut other : List (List ℕ)) → joined cut ≡ joined other → TakesFeed before [] → TakesFeeds before cut
       → TakesFeeds before other

@@ -3,7 +3,7 @@ use Rattle.std.specs.Prelude.{true, not, List, [], ◌∷◌}
 use Rattle.checks.specs.declared.Reason.TheVariants.{RampRunning, NoRamp}
 use Rattle.checks.specs.Checks.{Answer, when, verdict}
 use Rattle.board.specs.declared.Board.{Board}
-use Rattle.board.specs.Board.{Outcome, unsound, ended, leaves}
+use Rattle.board.specs.Board.{Outcome, unsound, with_settings, with_ramp, ended, leaves}
 
 -- ---- Start. 9: a ramp is running
 
@@ -12,7 +12,7 @@ start_checks b = unsound b ∷ when b.running RampRunning ∷ []
 
 -- a ramp begins: the waiting settings are in force
 abbrev pub begun : Board → Board
-begun b = record { sides = b.sides; waiting = b.waiting; in_force = b.waiting; running = true; fed = 0 }
+begun b = with_ramp true 0 (with_settings b.waiting b.waiting b)
 
 unfoldable pub start_of : Board → Outcome
 start_of b = leaves (verdict (start_checks b)) (begun b) b

@@ -6,7 +6,7 @@ use Rattle.checks.specs.Checks.{Answer, when, found, verdict, by_answer}
 use Rattle.entries.specs.Possible.{possible}
 use Rattle.encoding.specs.Frame.{word_count, frame_of}
 use Rattle.board.specs.declared.Board.{Board}
-use Rattle.board.specs.Board.{Outcome, area, wanted, ended, leaves}
+use Rattle.board.specs.Board.{Outcome, board_area, wanted, ended, leaves}
 use Rattle.board.specs.RampChecks.{ramp_checks}
 
 -- 15: the ramp wants more readings. 16: the output isn't one word for each pixel, or for each square if binned. 14: an entry isn't possible for k = N; the place is
@@ -14,7 +14,7 @@ use Rattle.board.specs.RampChecks.{ramp_checks}
 abbrev pub output_checks : Board → List ℤ → ℕ → List Answer
 output_checks b sums outputLength =
     when (ltb b.fed (wanted b)) ReadingsWanted
-    ∷ when (not (eqb outputLength (word_count b.sides.binned (area b)))) WordsLength
+    ∷ when (not (eqb outputLength (word_count b.sides.binned (board_area b)))) WordsLength
     ∷ found (first_place (length sums) (λ p. not (possible b.in_force b.in_force.samples (get_or sums p (pos 0))))) EntryNotPossible
     ∷ []
 

@@ -2,7 +2,7 @@
 use Prim.Native.Nat.{ℕ, ◌+◌, ◌-◌, ◌/◌, ◌%◌, ◌<◌}
 use mathlib.Core.Bool.{true, false, cond, ◌&&◌}
 use mathlib.Core.List.{List}
-use mathlib.Core.Logic.{◌⊎◌, inl, inr}
+use mathlib.Core.Logic.{◌↔◌, ◌⊎◌, inl, inr}
 use mathlib.Core.Path.{◌≡◌, refl, sym, ap, subst, ◌∙◌}
 use native.Mathlib.Nat.{div-add-mod', mul-pos, add-zero}
 use native.Mathlib.Omega.{arith}
@@ -18,11 +18,11 @@ use Rattle.checks.specs.Checks.{verdict}
 use Rattle.sides.specs.Sides.{sides_taken}
 use Rattle.meaning.specs.Meaning.{is_flag}
 use Rattle.places.specs.declared.Place.{Place}
-use Rattle.places.specs.Places.{place_at, place_of, index_of, is_inside, flag_at, apart, square}
+use Rattle.places.specs.Places.{place_at, place_of, index_of, is_inside, flag_at, apart, squared}
 use Rattle.places.specs.Checks.{nearest_checks, count_checks}
 use Rattle.places.specs.Finding.{nearest_at, distance_from, placed, nearest_of}
 use Rattle.places.specs.Counting.{how_many, in_box, flag_within, count_of}
-use Rattle.places.specs.Laws.{NotAfter, NearestFlag, Exactly, FlagLaws}
+use Rattle.places.specs.Laws.{NotAfter, NearestFlag, FlagLaws}
 use Rattle.places.proofs.Checked.{Framed, Inside, inside_parts, nearest_taken, count_taken, within, row_room}
 use Rattle.places.proofs.Counts.{many_same, many_within}
 use Rattle.places.proofs.Flagged.{flag_below}
@@ -81,7 +81,7 @@ module _ (words : List ℕ) (width height : ℕ) where
         ∙ rw (nearest_is (flag_at words) distance (length words) (index_of width p) (best_is (index_of width p) n))
         (ap (λ (q : Place). Ok (Some q)) (place_back frame p (inside_parts words width height p t)))
 
-    nearest : (p : Place) → Exactly (nearest_of words width height place ≡ Ok (Some p)) ((is_inside width height p ≡ true) × NearestFlag words width place (index_of width p))
+    nearest : (p : Place) → (nearest_of words width height place ≡ Ok (Some p)) ↔ ((is_inside width height p ≡ true) × NearestFlag words width place (index_of width p))
     nearest p =
         (λ e. to_place p (nearest_at (length words) (flag_at words) distance) (nearest_says (flag_at words) distance (length words)) (told (sym answer ∙ e)), λ n. from_place p n.0 n.1)
 
@@ -89,7 +89,7 @@ module _ (words : List ℕ) (width height : ℕ) where
     to_none (Some k) s e i = let z : ◌≡◌ {A = ℕ} 0 1 = cc in absurd (omega arith)
     to_none None s e i = cases (flag_at words i) (λ t. clash (sym t ∙ s i (flag_below words i t))) (λ t. t)
 
-    no_flag : Exactly (nearest_of words width height place ≡ Ok None) ((i : ℕ) → flag_at words i ≡ false)
+    no_flag : (nearest_of words width height place ≡ Ok None) ↔ ((i : ℕ) → flag_at words i ≡ false)
     no_flag = (
       λ e. to_none (nearest_at (length words) (flag_at words) distance) (nearest_says (flag_at words) distance (length words)) (told (sym answer ∙ e)),
       λ h. answer ∙ rw (nearest_none (flag_at words) distance (length words) (λ j l. h j)),
@@ -99,19 +99,19 @@ module _ (words : List ℕ) (width height : ℕ) where
     own_nearest t =
         let i = (nearest_taken words width height place taken).1 in
         from_place place (true_and (lt-ltb place.row height i.row) (lt-ltb place.column width i.column))
-        (record { flag = t; first = λ j u. first_of j (own i) })
+        (record { flag = t; first = λ j u. own_first j (own i) })
       where
         own : Inside words width height place → distance (index_of width place) ≡ 0
         own i = rw (quotient width place.row place.column i.column, rest width place.row place.column i.column) (zero_apart place.row place.column)
           where
-            zero_apart : (a b : ℕ) → square (apart a a) + square (apart b b) ≡ 0
+            zero_apart : (a b : ℕ) → squared (apart a a) + squared (apart b b) ≡ 0
             zero_apart a b = let p : apart a a ≡ 0 = omega arith in let q : apart b b ≡ 0 = omega arith in rw (p, q)
 
-        zero_root : (a : ℕ) → square a ≡ 0 → a ≡ 0
+        zero_root : (a : ℕ) → squared a ≡ 0 → a ≡ 0
         zero_root a e = cases (ltb 0 a) (λ l. absurd (omega (arith, mul-pos (ltb-true 0 a l) (ltb-true 0 a l)))) (λ l. omega (arith, ltb-false 0 a l))
 
-        first_of : (j : ℕ) → distance (index_of width place) ≡ 0 → NotAfter (distance (index_of width place)) (index_of width place) (distance j) j
-        first_of j e =
+        own_first : (j : ℕ) → distance (index_of width place) ≡ 0 → NotAfter (distance (index_of width place)) (index_of width place) (distance j) j
+        own_first j e =
             rw e
             (cases (ltb 0 (distance j))
             (λ l. inl (ltb-true 0 (distance j) l))

@@ -2,11 +2,10 @@
 --     Best              i is the nearest of those below n, and the first among equals
 --     Says, nearest_says     what `nearest_at` finds is the best; where it finds nothing, the test holds nowhere
 --     nearest_is, nearest_none    and back
---     nearest_below     what is found is below n
 use Prim.Native.Nat.{ℕ, zero, suc, ◌≤◌, ◌<◌}
 use mathlib.Core.Bool.{Bool, true, false, cond}
 use mathlib.Core.Logic.{inl, inr}
-use mathlib.Core.Path.{◌≡◌, refl, sym, ap, subst, ◌∙◌}
+use mathlib.Core.Path.{◌≡◌, refl, sym, ap, ◌∙◌}
 use native.Mathlib.Decide.{ℕ_discrete}
 use native.Mathlib.Omega.{arith}
 use borrow.Author.Tests.{leb-true, leb-false}
@@ -94,9 +93,6 @@ module _ (test : ℕ → Bool) (distance : ℕ → ℕ) where
       by : (x : Option ℕ) → Says n x → x ≡ Some i
       by (Some k) s = ap Some (same (s.first i b.below b.holds) (b.first k s.below s.holds))
       by None s = clash (sym b.holds ∙ s i b.below)
-
-  pub nearest_below : (n i : ℕ) → nearest_at n test distance ≡ Some i → i < n
-  nearest_below n i e = (subst (Says n) e (nearest_says n)).below
 
   pub nearest_none : (n : ℕ) → ((j : ℕ) → j < n → test j ≡ false) → nearest_at n test distance ≡ None
   nearest_none n h = by (nearest_at n test distance) (nearest_says n)

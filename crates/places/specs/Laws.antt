@@ -1,5 +1,5 @@
 -- What must be true of the two operations, beside their contracts. `proofs/Laws.antt` shows it.
-use Rattle.std.specs.Prelude.{ℕ, ◌-◌, ◌≤◌, ◌<◌, true, false, cond, ◌||◌, List, [], ◌∷◌, ◌⊎◌, ◌≡◌, eqb, length, Some, None, Ok, Err}
+use Rattle.std.specs.Prelude.{ℕ, ◌-◌, ◌≤◌, ◌<◌, true, false, cond, ◌||◌, List, [], ◌∷◌, ◌↔◌, ◌⊎◌, ◌≡◌, eqb, length, Some, None, Ok, Err}
 use Rattle.laws.specs.Lists.{each}
 use Rattle.checks.specs.declared.Reason.TheVariants.{WordsLength, OutsideFrame}
 use Rattle.checks.specs.Checks.{verdict, refusal}
@@ -18,10 +18,6 @@ pub record NearestFlag (words : List ℕ) (width : ℕ) (place : Place) (i : ℕ
   pub flag : flag_at words i ≡ true
   pub first : (j : ℕ) → flag_at words j ≡ true → NotAfter (distance_from width place i) i (distance_from width place j) j
 
--- each follows from the other
-abbrev pub Exactly : Type 0 → Type 0 → Type 0
-Exactly a b = (a → b) × (b → a)
-
 -- n words, of which those at i and j are flags
 abbrev two_flags : ℕ → ℕ → ℕ → List ℕ
 two_flags n i j = each (λ k. cond (eqb k i || eqb k j) 32767 0) n
@@ -33,10 +29,10 @@ cross = 0 ∷ 32767 ∷ 0 ∷ 32761 ∷ 0 ∷ 32753 ∷ 0 ∷ 32767 ∷ 0 ∷ []
 pub record FlagLaws : Type 0 where
   -- the answer is a place exactly when its word is a flag and no other flag is nearer, or as near and before it in row order
   pub nearest : (words : List ℕ) (width height : ℕ) (place p : Place) → verdict (nearest_checks words width height place) ≡ Ok tt
-      → Exactly (nearest_of words width height place ≡ Ok (Some p)) ((is_inside width height p ≡ true) × NearestFlag words width place (index_of width p))
+      → (nearest_of words width height place ≡ Ok (Some p)) ↔ ((is_inside width height p ≡ true) × NearestFlag words width place (index_of width p))
   -- there is "no flag" exactly when no word is one
   pub no_flag : (words : List ℕ) (width height : ℕ) (place : Place) → verdict (nearest_checks words width height place) ≡ Ok tt
-      → Exactly (nearest_of words width height place ≡ Ok None) ((i : ℕ) → flag_at words i ≡ false)
+      → (nearest_of words width height place ≡ Ok None) ↔ ((i : ℕ) → flag_at words i ≡ false)
   -- a place that is flagged is its own nearest
   pub own_nearest : (words : List ℕ) (width height : ℕ) (place : Place) → verdict (nearest_checks words width height place) ≡ Ok tt
       → flag_at words (index_of width place) ≡ true → nearest_of words width height place ≡ Ok (Some place)

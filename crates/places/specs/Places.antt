@@ -25,9 +25,9 @@ flag_at words i = is_flag (get_or words i 0)
 abbrev pub apart : ℕ → ℕ → ℕ
 apart a b = a - b + (b - a)
 
-abbrev pub square : ℕ → ℕ
-square n = n * n
+abbrev pub squared : ℕ → ℕ
+squared n = n * n
 
 -- in rows and columns
 abbrev pub squared_distance : Place → Place → ℕ
-squared_distance p q = square (apart p.row q.row) + square (apart p.column q.column)
+squared_distance p q = squared (apart p.row q.row) + squared (apart p.column q.column)

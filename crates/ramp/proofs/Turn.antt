@@ -14,11 +14,11 @@ use Rattle.settings.specs.declared.Settings.{Settings}
 use Rattle.settings.proofs.Parts.{in_range_parts}
 use Rattle.readings.specs.Readings.{reading_in_range}
 use Rattle.entries.specs.Possible.{possible}
-use Rattle.entries.specs.Range.{entry_in_range}
+use Rattle.entries.specs.SupportRange.{entry_in_range}
 use Rattle.entries.proofs.Range.{possible_in_range}
 use Rattle.step.specs.Step.{step}
 use Rattle.sums.specs.Feed.{feed_all}
-use Rattle.ramp.specs.Requires.{Feedable}
+use Rattle.ramp.specs.SupportRequires.{Feedable}
 use Rattle.step.proofs.Steps.{possible_step}
 use Rattle.written.proofs.Places.{place}
 use Rattle.sums.proofs.Feeding.{feed_length, feed_append, feed_part}

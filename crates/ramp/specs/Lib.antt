@@ -1,2 +1,2 @@
 -- What the passes of Feed require.
-pub mod Requires
+pub mod SupportRequires

@@ -6,16 +6,16 @@ ghost use Rattle.std.specs.Prelude.{◌≡◌, true, ◌≤◌, ◌<◌, length}
 ghost use Rattle.laws.specs.Lists.{every, over};
 ghost use Rattle.settings.specs.Settings.{max_samples, in_range};
 ghost use Rattle.readings.specs.Readings.{reading_in_range};
-ghost use Rattle.entries.specs.Range.{entry_in_range};
+ghost use Rattle.entries.specs.SupportRange.{entry_in_range};
 ghost use Rattle.step.specs.Step.{SampleInRange, step_by, step};
 ghost use Rattle.sums.specs.Feed.{sums_after};
-ghost use Rattle.ramp.specs.Requires.{Feedable};
+ghost use Rattle.ramp.specs.SupportRequires.{Feedable};
 
 use settings::Settings;
 use step::{Sample, accumulate};
 
 // Readings of one sample, and the entries of their pixels.
-fn feed_part(readings: &[u16], sums: &mut [i32], sample: Sample)
+fn feed_part(sample: Sample, readings: &[u16], sums: &mut [i32])
     requires readings_len { length readings.now ≡ length sums.old }
     requires sample_value { SampleInRange sample }
     requires readings_value { every reading_in_range readings.now ≡ true }
@@ -24,12 +24,12 @@ fn feed_part(readings: &[u16], sums: &mut [i32], sample: Sample)
 {
     // No zip: of what is written through one a proof knows the length alone.
     for (i, entry) in sums.iter_mut().enumerate() {
-        accumulate(entry, readings[i], sample);
+        accumulate(sample, readings[i], entry);
     }
 }
 
 // Readings of sample n, and the entries of their pixels.
-fn feed_sample(readings: &[u16], sums: &mut [i32], n: usize, settings: Settings)
+fn feed_sample(settings: Settings, n: usize, readings: &[u16], sums: &mut [i32])
     requires readings_len { length readings.now ≡ length sums.old }
     requires le_n { (1 ≤ n) × (n ≤ max_samples) }
     requires settings_value { in_range settings ≡ true }
@@ -42,12 +42,12 @@ fn feed_sample(readings: &[u16], sums: &mut [i32], n: usize, settings: Settings)
         weight: settings.weight(n),
         threshold: settings.threshold,
     };
-    feed_part(readings, sums, sample);
+    feed_part(sample, readings, sums);
 }
 
-/// Feed: sample by sample, each over the part of the sums that its readings reach. No chunks: the first part may begin within a sample, and would be a second call beside
+/// The writing pass of Feed: sample by sample, each over the part of the sums that its readings reach. No chunks: the first part may begin within a sample, and would be a second call beside
 /// theirs.
-pub fn feed(readings: &[u16], sums: &mut [i32], fed: usize, settings: Settings)
+pub fn write_sums(settings: Settings, fed: usize, readings: &[u16], sums: &mut [i32])
     requires { Feedable settings fed readings.now sums.old }
     ensures { sums.new ≡ sums_after settings fed readings.now sums.old }
 {
@@ -58,7 +58,7 @@ pub fn feed(readings: &[u16], sums: &mut [i32], fed: usize, settings: Settings)
         let p = at % m;
         let k = rest.len().min(m - p);
         let (part, later) = rest.split_at(k);
-        feed_sample(part, &mut sums[p..p + k], at / m + 1, settings);
+        feed_sample(settings, at / m + 1, part, &mut sums[p..p + k]);
         rest = later;
         at += k;
     }

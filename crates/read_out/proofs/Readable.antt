@@ -11,9 +11,9 @@ use lib.ListN.{length}
 use Rattle.laws.proofs.Every.{every_at, every_all, every_each}
 use Rattle.laws.proofs.Tests.{true_and}
 use Rattle.entries.specs.Possible.{possible}
-use Rattle.entries.specs.Range.{entry_in_range}
+use Rattle.entries.specs.SupportRange.{entry_in_range}
 use Rattle.entries.proofs.Range.{possible_in_range}
-use Rattle.layout.specs.Requires.{Readable}
+use Rattle.layout.specs.SupportRequires.{Readable}
 use Rattle.board.specs.declared.Board.{Board}
 use Rattle.board.specs.Board.{of_taken_sides, sound}
 use Rattle.board.proofs.Soundness.{sound_parts, sides_of}

@@ -1,25 +1,27 @@
 //! Read out. Buffers are lent one by one, each of a length of its own: a type of several would be made for one call.
 #![tactic(auto)]
 
-ghost use Rattle.std.specs.Prelude.{◌≡◌, true};
+ghost use Rattle.std.specs.Prelude.{◌≡◌, ◌*◌, true};
 ghost use Rattle.checks.specs.Checks.{verdict};
 ghost use Rattle.encoding.specs.Frame.{word_count};
-ghost use Rattle.board.specs.Board.{area, of_taken_sides, sound};
+ghost use Rattle.sides.specs.Sides.{of_sides};
+ghost use Rattle.board.specs.Board.{sound};
 ghost use Rattle.operations.specs.ReadOut.{output_checks, read_out_checks, read_out_of, read_out_words};
 
 use board::Board;
 use checks::{Answer, Reason, refuse_at, refuse_when};
 use impossible::first_impossible;
 use layout::write_frame;
+use sides::Sides;
 
 /// How many words a frame has: one for each pixel, or each square; 0 for sides that Open doesn't take, as `Sides::area` has it.
-pub fn word_count(board: Board) -> usize
-    ensures { result ≡ of_taken_sides board (word_count board.sides.binned (area board)) }
+pub fn word_count(sides: Sides) -> usize
+    ensures { result ≡ of_sides sides.width sides.height sides.binned (word_count sides.binned (sides.width * sides.height)) }
 {
-    if board.sides.binned {
-        board.area() / 4
+    if sides.binned {
+        sides.area() / 4
     } else {
-        board.area()
+        sides.area()
     }
 }
 
@@ -30,8 +32,8 @@ fn check_output(board: Board, sums: &[i32], words: usize) -> Answer
     ensures { result ≡ verdict (output_checks board sums.now words) }
 {
     refuse_when(board.fed < board.wanted(), Reason::ReadingsWanted)?;
-    refuse_when(words != word_count(board), Reason::WordsLength)?;
-    let impossible = first_impossible(sums, board.in_force.samples.into());
+    refuse_when(words != word_count(board.sides), Reason::WordsLength)?;
+    let impossible = first_impossible(board.in_force.samples.into(), sums);
     refuse_at(impossible, Reason::EntryNotPossible)
 }
 
@@ -42,7 +44,11 @@ fn check_read_out(board: Board, sums: &[i32], words: &[u16]) -> Answer
     check_output(board, sums, words.len())
 }
 
-/// Read out: every check first, then the frame goes into the output.
+/// Read out. Takes a board, the sums and an output. Leaves the frame of the sums in the output and no ramp running; the sums are only read.
+/// Refused, in this order, with 99 for a board that isn't sound, 10 where no ramp runs, 11 where there isn't one sum for each pixel, 15 while the ramp wants
+/// readings, 16 for an output that isn't one word for each pixel, or each square if binned, and 14 for an entry that isn't possible after N samples, at its
+/// place in the sums. Board and output are then as they were.
+/// The definitions are `read_out_of` and `read_out_words` in operations/specs/ReadOut.antt.
 #[tactic(auto, unfolding(operations::specs::ReadOut::read_out_of, operations::specs::ReadOut::read_out_words))]
 pub fn read_out(board: &mut Board, sums: &[i32], words: &mut [u16]) -> Answer
     ensures answer { result ≡ (read_out_of board.old sums.now words.old).answer }
@@ -50,7 +56,7 @@ pub fn read_out(board: &mut Board, sums: &[i32], words: &mut [u16]) -> Answer
     ensures words { words.new ≡ read_out_words board.old sums.now words.old }
 {
     check_read_out(*board, sums, words)?;
-    write_frame(sums, words, board.sides, board.in_force.truncation);
+    write_frame(board.sides, board.in_force.truncation, sums, words);
     *board = board.ended();
     Ok(())
 }

@@ -3,7 +3,7 @@
 --     weight_below                 a weight's field is one of nine
 --     field_apart                  two bits have two fields
 --     width_small, place_small     where a field stands is a small number
---     high_bits                    a map has nothing above its fields' bits exactly where none of the bits without one stands
+--     high_bits                    a map has nothing above its fields' bits exactly where none of the bits without one is set
 use Prim.Native.Nat.{ℕ, zero, suc, ◌+◌, ◌-◌, ◌*◌, ◌/◌, ◌%◌, ◌^◌, ◌≤◌, ◌<◌}
 use mathlib.Core.Bool.{not, ◌||◌}
 use mathlib.Core.Path.{◌≡◌, refl, sym, ap, subst, ◌∙◌}
@@ -15,7 +15,7 @@ use Rattle.laws.specs.Lists.{up_from, any_of}
 use Rattle.laws.proofs.Tests.{cases}
 use Rattle.record.specs.declared.Field.{Field}
 use Rattle.record.specs.declared.Field.TheVariants.{Weight, Threshold, Truncation, Samples}
-use Rattle.record.specs.Record.{stands, field_count, unknown_bit, field_of, width_of, place_of}
+use Rattle.record.specs.Record.{bit_set, field_count, unknown_bit, field_of, size_of, offset_of}
 
 pub field_cases : (P : Field → Type 0) (bit : ℕ) → (bit < 9 → P (Weight bit)) → (bit ≡ 9 → P Threshold) → (bit ≡ 10 → P Truncation) → (10 < bit → P Samples) → P (field_of bit)
 unfolding field_of
@@ -50,21 +50,21 @@ bit_of_field bit h = field_cases (λ f. bit_of f ≡ bit) bit (λ l. refl) sym s
 pub field_apart : (a b : ℕ) → a < field_count → b < field_count → field_of a ≡ field_of b → a ≡ b
 field_apart a b h k e = sym (bit_of_field a h) ∙ ap bit_of e ∙ bit_of_field b k
 
-pub width_small : (f : Field) → width_of f ≤ 2
-width_small (Weight i) = omega arith
-width_small Threshold = omega arith
-width_small Truncation = omega arith
-width_small Samples = omega arith
+pub size_small : (f : Field) → size_of f ≤ 2
+size_small (Weight i) = omega arith
+size_small Threshold = omega arith
+size_small Truncation = omega arith
+size_small Samples = omega arith
 
-pub place_small : (map bit : ℕ) → place_of map bit ≤ 2 + 2 * bit
-unfolding place_of
-place_small map zero = omega arith
-place_small map (suc bit) =
-    cases (stands map bit)
-    (λ e. rw e (omega (arith, place_small map bit, width_small (field_of bit))))
-    (λ e. rw e (omega (arith, place_small map bit)))
+pub offset_small : (map bit : ℕ) → offset_of map bit ≤ 2 + 2 * bit
+unfolding offset_of
+offset_small map zero = omega arith
+offset_small map (suc bit) =
+    cases (bit_set map bit)
+    (λ e. rw e (omega (arith, offset_small map bit, size_small (field_of bit))))
+    (λ e. rw e (omega (arith, offset_small map bit)))
 
--- a number is not 0 where its lowest bit stands or the rest of it is not 0
+-- a number is not 0 where its lowest bit is set or the rest of it is not 0
 lowest_or_more : (n : ℕ) → not (eqb n 0) ≡ eqb (n % 2) 1 || not (eqb (n / 2) 0)
 lowest_or_more n =
     cases (eqb (n % 2) 1)
@@ -74,8 +74,8 @@ lowest_or_more n =
     (λ f. rw (e, f, ne_eqb n 0 (λ z. eqb-false (n / 2) 0 f (omega arith)))))
 
 -- a number of n + m bits, with those from bit n up
-bits_from : (map n m : ℕ) → map < 2 ^ (n + m) → not (eqb (map / 2 ^ n) 0) ≡ any_of (stands map) (up_from n m)
-unfolding any_of stands
+bits_from : (map n m : ℕ) → map < 2 ^ (n + m) → not (eqb (map / 2 ^ n) 0) ≡ any_of (bit_set map) (up_from n m)
+unfolding any_of bit_set
 bits_from map n zero h = rw (div-eq_of_lt (rw add-zero at h))
 bits_from map n (suc m) h =
     let e : map / 2 ^ n / 2 ≡ map / 2 ^ suc n = div-div-eq-div-mul map (2 ^ n) 2 ∙ rw (pow-suc) in

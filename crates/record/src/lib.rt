@@ -1,10 +1,10 @@
-//! The bytes of an update record: a map of two bytes, then the fields whose bit stands. A place stands beside the bytes, and a byte past the end is 0, as the definitions
+//! The bytes of an update record: a map of two bytes, then the fields whose bit is set. A place stands beside the bytes, and a byte past the end is 0, as the definitions
 //! have it: they name a field by its place, and none of these functions can fail.
 #![tactic(auto)]
 
 ghost use Rattle.std.specs.Prelude.{◌≡◌, get_or};
 ghost use Rattle.record.specs.Record as Def;
-ghost use Rattle.record.specs.Record.{field_count, field_of, number_at, pair_at, place_of, weight_of, width_of};
+ghost use Rattle.record.specs.Record.{field_count, field_of, number_at, u16_le_at, offset_of, weight_of, size_of};
 
 /// A field of an update record. `Weight(i)` is weight i + 1.
 #[derive(Clone, Copy, Debug, PartialEq, Eq)]
@@ -18,9 +18,9 @@ pub enum Field {
 /// How many fields there are: bits 0 to 11 of the map.
 pub const FIELDS: usize = 12;
 
-/// Whether bit i of n stands.
-pub fn stands(n: u16, i: usize) -> bool
-    ensures { result ≡ Def.stands n i }
+/// Whether bit i of n is set.
+pub fn bit_set(n: u16, i: usize) -> bool
+    ensures { result ≡ Def.bit_set n i }
 {
     i < 16 && n >> i & 1 == 1
 }
@@ -32,9 +32,9 @@ pub fn byte(bytes: &[u8], at: usize) -> u8
     bytes.get(at).copied().unwrap_or(0)
 }
 
-/// The two bytes at a place, low byte first.
-pub fn pair(bytes: &[u8], at: usize) -> u16
-    ensures { result ≡ pair_at bytes.now at }
+/// The 16-bit number of the two bytes at a place, low byte first.
+pub fn u16_le_at(bytes: &[u8], at: usize) -> u16
+    ensures { result ≡ u16_le_at bytes.now at }
 {
     u16::from_le_bytes([byte(bytes, at), byte(bytes, at.saturating_add(1))])
 }
@@ -54,8 +54,8 @@ impl Field {
     }
 
     /// How many bytes it takes.
-    pub fn width(self) -> usize
-        ensures { result ≡ width_of self }
+    pub fn size(self) -> usize
+        ensures { result ≡ size_of self }
     {
         match self {
             Field::Weight(_) => 1,
@@ -70,21 +70,21 @@ impl Field {
         ensures { result ≡ number_at self bytes.now at }
     {
         match self {
-            Field::Threshold => pair(bytes, at),
+            Field::Threshold => u16_le_at(bytes, at),
             Field::Weight(_) | Field::Truncation | Field::Samples => byte(bytes, at).into(),
         }
     }
 }
 
 /// Where the fields that a map calls for end.
-#[tactic(auto, unfolding(crate::specs::Record::place_of))]
+#[tactic(auto, unfolding(crate::specs::Record::offset_of))]
 pub fn end_of(map: u16) -> usize
-    ensures { result ≡ place_of map field_count }
+    ensures { result ≡ offset_of map field_count }
 {
     let mut end = 2;
     for bit in 0..FIELDS {
-        if stands(map, bit) {
-            end += Field::of_bit(bit).width();
+        if bit_set(map, bit) {
+            end += Field::of_bit(bit).size();
         }
     }
     end
@@ -96,5 +96,5 @@ pub fn weight_of(b: u16) -> i32
     ensures { result ≡ weight_of b }
 {
     let magnitude = i32::from(b & 15);
-    if stands(b, 4) { -magnitude } else { magnitude }
+    if bit_set(b, 4) { -magnitude } else { magnitude }
 }

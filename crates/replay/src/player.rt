@@ -1,20 +1,19 @@
 //! The commands of a script, played on a board, on the sums that are lent and on the words.
-ghost use Rattle.commands.specs.Ranges.{InRange};
+ghost use Rattle.replay_commands.specs.Ranges.{InRange};
 
-use crate::show::{Flag, Flags, Meaning, Shown, Tens, Told};
+use crate::show::{Answered, Flag, Flags, Meaning, Shown, Tens};
 use arrayvec::ArrayVec;
 use board::Board;
 use checks::Answer;
-use commands::Command;
-use console::Output;
 use control::covered;
 use feed::feed;
 use flags::{count_flags, nearest_flag};
-use items::{MOST, Numbers, bytes_of, shorts_of};
 use meaning::read_word;
 use places::Frame;
 use read_out::read_out;
-use script::said;
+use replay_commands::Command;
+use replay_items::{MOST, Numbers, bytes_of, shorts_of};
+use replay_script::said;
 use settings::Settings;
 use sides::Sides;
 use std::fmt::{self, Write};
@@ -66,14 +65,14 @@ impl Player {
     }
 
     // The answer of a call, and the board that it leaves.
-    fn show(&self, out: &mut Output, answer: Answer) -> fmt::Result {
-        let told = Told(answer.map(|_| "taken"));
+    fn show(&self, out: &mut impl Write, answer: Answer) -> fmt::Result {
+        let answered = Answered(answer.map(|_| "taken"));
         let board = Shown(self.board);
-        writeln!(out, "{told}\n{board}")
+        writeln!(out, "{answered}\n{board}")
     }
 
     // Read out, and the frame if it is taken.
-    fn frame(&mut self, out: &mut Output, count: usize) -> fmt::Result {
+    fn frame(&mut self, out: &mut impl Write, count: usize) -> fmt::Result {
         let answer = self.read_out(count);
         self.show(out, answer)?;
         if answer.is_ok() {
@@ -82,7 +81,7 @@ impl Player {
         Ok(())
     }
 
-    fn poke(&mut self, out: &mut Output, index: usize, entry: i32) -> fmt::Result {
+    fn poke(&mut self, out: &mut impl Write, index: usize, entry: i32) -> fmt::Result {
         let Some(old) = self.sums.get_mut(index) else {
             return writeln!(out, "outside");
         };
@@ -100,13 +99,17 @@ impl Player {
     }
 
     // A command, of a closed set: so a `match`. The list has the bytes of an update, the readings of a feed and the words, of which the first are taken as its count says.
-    fn run(&mut self, out: &mut Output, command: Command, list: &[i64]) -> fmt::Result
+    fn run(&mut self, out: &mut impl Write, command: Command, list: &[i64]) -> fmt::Result
         requires { InRange command }
     {
         match command {
             Command::Open(sides) => {
                 let answer = self.open(sides);
                 self.show(out, answer)
+            }
+            Command::Board(board) => {
+                self.board = board;
+                self.show(out, Ok(()))
             }
             Command::Update(count) => {
                 let bytes = bytes_of(list);
@@ -118,7 +121,7 @@ impl Player {
                 self.show(out, answer)
             }
             Command::Feed { count, same } => {
-                let readings = shorts_of(list, same);
+                let readings = shorts_of(same, list);
                 let sums = self.sums.as_mut_slice();
                 let answer = feed(&mut self.board, &readings[..count], sums);
                 self.show(out, answer)
@@ -130,11 +133,19 @@ impl Player {
             }
             Command::Covered => {
                 let covered = covered(self.board);
-                let told = Told(covered.map(|yes| if yes { "covered" } else { "uncovered" }));
-                writeln!(out, "{told}")
+                let answered = Answered(covered.map(|yes| if yes {
+                    "covered"
+                } else {
+                    "uncovered"
+                }));
+                writeln!(out, "{answered}")
             }
             Command::Word { word, truncation } => {
-                writeln!(out, "{}", Told(read_word(word, truncation).map(Meaning)))
+                writeln!(
+                    out,
+                    "{}",
+                    Answered(read_word(truncation, word).map(Meaning))
+                )
             }
             Command::Sums { length, entry } => {
                 self.sums = ArrayVec::from([entry; MOST]);
@@ -156,7 +167,7 @@ impl Player {
                 }
             }
             Command::Words(count) => {
-                self.words = ArrayVec::from(shorts_of(list, false));
+                self.words = ArrayVec::from(shorts_of(false, list));
                 self.words.truncate(count);
                 writeln!(out, "taken")
             }
@@ -166,7 +177,7 @@ impl Player {
                 place,
             } => {
                 let frame = self.words_as(width, height);
-                writeln!(out, "{}", Told(nearest_flag(frame, place).map(Flag)))
+                writeln!(out, "{}", Answered(nearest_flag(frame, place).map(Flag)))
             }
             Command::Count {
                 width,
@@ -175,7 +186,11 @@ impl Player {
                 last,
             } => {
                 let frame = self.words_as(width, height);
-                writeln!(out, "{}", Told(count_flags(frame, first, last).map(Flags)))
+                writeln!(
+                    out,
+                    "{}",
+                    Answered(count_flags(frame, first, last).map(Flags))
+                )
             }
         }
     }
@@ -183,7 +198,7 @@ impl Player {
     // Plays a line that is not malformed. Its numbers go into the list.
     pub(crate) fn play(
         &mut self,
-        out: &mut Output,
+        out: &mut impl Write,
         line: &[u8],
         list: &mut Numbers,
     ) -> fmt::Result {

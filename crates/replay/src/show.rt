@@ -8,9 +8,9 @@ use std::fmt::{self, Display};
 
 // What a call answers, or its refusal with number and place.
 #[derive(Drop)]
-pub(crate) struct Told<T>(pub(crate) Result<T, Refusal>);
+pub(crate) struct Answered<T>(pub(crate) Result<T, Refusal>);
 
-impl<T: Display> Display for Told<T> {
+impl<T: Display> Display for Answered<T> {
     fn fmt<W: fmt::Write>(&self, f: &mut fmt::Formatter<W>) -> fmt::Result {
         match &self.0 {
             Ok(answer) => write!(f, "{answer}"),

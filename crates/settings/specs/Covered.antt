@@ -1,5 +1,6 @@
 -- The covered question.
 use Rattle.std.specs.Prelude.{ℕ, zero, suc, ◌+◌, ◌*◌, ◌^◌, Bool, ltb, ℤ, pos, negsuc}
+use Rattle.word_codes.specs.Codes.{ordinary_end}
 use Rattle.settings.specs.declared.Settings.{Settings}
 use Rattle.settings.specs.Settings.{weight_at}
 
@@ -23,7 +24,7 @@ reach s = pedestal + positives s s.samples * s.threshold
 
 -- the first sum that no ordinary word stands for: 32,752 × 2^r
 abbrev pub ceiling : ℕ → ℕ
-ceiling r = 32752 * 2 ^ r
+ceiling r = ordinary_end * 2 ^ r
 
 -- *covered*: 128 + P × T lies below 32,752 × 2^r
 unfoldable pub is_covered : Settings → Bool

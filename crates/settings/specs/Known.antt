@@ -1,7 +1,8 @@
--- The settings at opening, number by number. `proofs/Known.antt` shows them.
+-- The settings at opening, number by number, and the ceiling for each r. `proofs/Known.antt` shows them.
 use Rattle.std.specs.Prelude.{[], ◌∷◌, map, ◌≡◌, pos, neg_ℤ}
 use Rattle.laws.specs.Lists.{up_from}
 use Rattle.settings.specs.Settings.{defaults, weight_at}
+use Rattle.settings.specs.Covered.{ceiling}
 
 pub record AllKnown : Type 0 where
   -- the weights of samples 1 to 9, threshold, r and N
@@ -9,3 +10,5 @@ pub record AllKnown : Type 0 where
       × (defaults.threshold ≡ 13087)
       × (defaults.truncation ≡ 2)
       × (defaults.samples ≡ 9)
+  -- 32,752 × 2^r
+  pub known_ceilings : (ceiling 1 ≡ 65504) × (ceiling 2 ≡ 131008) × (ceiling 3 ≡ 262016)

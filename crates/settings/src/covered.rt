@@ -4,6 +4,7 @@ ghost use Rattle.settings.specs.Settings.{weight_at};
 ghost use Rattle.settings.specs.Covered.{positive_part, positives, is_covered};
 
 use crate::Settings;
+use word_codes::ORDINARY_END;
 
 // A positive weight, or 0 for any other.
 fn positive_part(w: i32) -> u64
@@ -45,6 +46,6 @@ impl Settings {
         let total = self.positive_total(self.samples.into());
         let reach = 128 + total * u64::from(self.threshold);
         // 32,752 * 2^49 is above every reach.
-        r >= 49 || reach < 32752 << r
+        r >= 49 || reach < u64::from(ORDINARY_END) << r
     }
 }

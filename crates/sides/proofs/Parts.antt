@@ -9,17 +9,17 @@ use native.Mathlib.Nat.{mul-le-mul, mul-pos}
 use native.Mathlib.Omega.{arith}
 use lib.Dec.{leb, eqb}
 use Rattle.laws.proofs.Tests.{cases, and_true}
-use Rattle.sides.specs.Sides.{side_taken, sides_taken, of_sides}
+use Rattle.sides.specs.Sides.{max_side, max_area, side_taken, sides_taken, of_sides}
 
 pub record Side (binned : Bool) (n : ℕ) : Type 0 where
   pub low : 1 ≤ n
-  pub high : n ≤ 1024
+  pub high : n ≤ max_side
   pub even : binned ≡ true → n % 2 ≡ 0
 
 side_parts : (binned : Bool) (n : ℕ) → side_taken binned n ≡ true → Side binned n
 side_parts binned n e =
-    let a = and_true (leb 1 n && leb n 1024) (not (binned && eqb (n % 2) 1)) e in
-    let b = and_true (leb 1 n) (leb n 1024) a.0 in
+    let a = and_true (leb 1 n && leb n max_side) (not (binned && eqb (n % 2) 1)) e in
+    let b = and_true (leb 1 n) (leb n max_side) a.0 in
     record {
       low = leb-true _ _ b.0;
       high = leb-true _ _ b.1;
@@ -30,7 +30,7 @@ pub record Sides (w h : ℕ) (binned : Bool) : Type 0 where
   pub width : Side binned w
   pub height : Side binned h
   pub some : 0 < w * h
-  pub few : w * h ≤ 1048576
+  pub few : w * h ≤ max_area
 
 pub sides_parts : (w h : ℕ) (binned : Bool) → sides_taken w h binned ≡ true → Sides w h binned
 unfolding sides_taken
@@ -42,9 +42,9 @@ sides_parts w h binned e =
       width = x;
       height = y;
       some = mul-pos x.low y.low;
-      few = mul-le-mul {n₂ = 1024} x.high y.high;
+      few = mul-le-mul {n₂ = max_side} x.high y.high;
     }
 
 module _ (w h : ℕ) (binned : Bool) where
-  pub area_few : of_sides w h binned (w * h) ≤ 1048576
+  pub area_few : of_sides w h binned (w * h) ≤ max_area
   area_few = cases (sides_taken w h binned) (λ e. rw e (sides_parts w h binned e).few) (λ e. rw e (omega arith))

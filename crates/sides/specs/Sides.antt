@@ -1,9 +1,17 @@
 -- The sides that Open takes.
-use Rattle.std.specs.Prelude.{ℕ, ◌%◌, Bool, cond, not, ◌&&◌, leb, eqb}
+use Rattle.std.specs.Prelude.{ℕ, ◌*◌, ◌%◌, Bool, cond, not, ◌&&◌, leb, eqb}
+
+-- the longest side
+abbrev pub max_side : ℕ
+max_side = 1024
+
+-- the most pixels of a board: 1,048,576
+abbrev pub max_area : ℕ
+max_area = max_side * max_side
 
 -- a side is 1 to 1,024, and a binned board's is even
 abbrev pub side_taken : Bool → ℕ → Bool
-side_taken binned n = leb 1 n && leb n 1024 && not (binned && eqb (n % 2) 1)
+side_taken binned n = leb 1 n && leb n max_side && not (binned && eqb (n % 2) 1)
 
 -- the sides of a board that Open takes
 unfoldable pub sides_taken : ℕ → ℕ → Bool → Bool

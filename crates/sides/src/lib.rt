@@ -4,6 +4,12 @@
 ghost use Rattle.std.specs.Prelude.{◌≡◌, ◌*◌};
 ghost use Rattle.sides.specs.Sides.{side_taken, sides_taken, of_sides};
 
+/// The longest side.
+pub const MAX_SIDE: usize = 1024;
+
+/// The most pixels of a board.
+pub const MAX_AREA: usize = MAX_SIDE * MAX_SIDE;
+
 #[derive(Clone, Copy, Debug, PartialEq, Eq)]
 pub struct Sides {
     pub width: usize,
@@ -16,7 +22,7 @@ impl Sides {
     fn takes(self, n: usize) -> bool
         ensures { result ≡ side_taken self.binned n }
     {
-        (1..=1024).contains(&n) && !(self.binned && n % 2 == 1)
+        (1..=MAX_SIDE).contains(&n) && !(self.binned && n % 2 == 1)
     }
 
     /// Whether Open takes these sides.

@@ -17,7 +17,7 @@ use Rattle.settings.proofs.Parts.{InRange}
 use Rattle.entries.specs.Mark.{mark}
 use Rattle.readings.specs.Readings.{reading_in_range}
 use Rattle.entries.specs.Possible.{possible_after, possible}
-use Rattle.entries.specs.Range.{entry_in_range}
+use Rattle.entries.specs.SupportRange.{entry_in_range}
 use Rattle.entries.proofs.Possible.{Mark, Near, fair, is_fair}
 use Rattle.step.specs.Step.{over_it, pedestal_or_stored, sum_or_mark, step}
 use Rattle.step.proofs.Products.{product}

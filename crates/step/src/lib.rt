@@ -5,7 +5,7 @@
 ghost use Rattle.std.specs.Prelude.{◌≡◌, true, cond, ◌<◌, pos, ◌*ℤ◌};
 ghost use Rattle.settings.specs.Settings.{weight_in_range, threshold_in_range};
 ghost use Rattle.readings.specs.Readings.{reading_in_range};
-ghost use Rattle.entries.specs.Range.{entry_in_range};
+ghost use Rattle.entries.specs.SupportRange.{entry_in_range};
 ghost use Rattle.step.specs.Step.{SampleInRange, is_above, pedestal_or_stored, sum_or_mark, step_by};
 
 use entries::MARK;
@@ -37,15 +37,15 @@ fn multiply(weight: i32, reading: u16) -> i32
     if weight < 0 { -size } else { size }
 }
 
-// What sample n adds to its product: 128 at sample 1, else the stored sum.
-fn pedestal_or_stored(n: usize, stored: i32) -> i32
-    ensures { result ≡ pedestal_or_stored n stored }
+// What sample n adds to its product: 128 at sample 1, at which the entry isn't read, else the stored sum.
+fn pedestal_or_stored(n: usize, stored: &i32) -> i32
+    ensures { result ≡ pedestal_or_stored n stored.now }
 {
-    if n == 1 { 128 } else { stored }
+    if n == 1 { 128 } else { *stored }
 }
 
 // Whether a reading is above the threshold.
-fn is_above(reading: u16, threshold: u16) -> bool
+fn is_above(threshold: u16, reading: u16) -> bool
     requires reading_value { reading_in_range reading ≡ true }
     requires threshold_value { threshold_in_range threshold ≡ true }
     ensures { result ≡ is_above threshold reading }
@@ -68,7 +68,7 @@ fn sum_or_mark(addend: i32, above: bool, mark: i32, sum: i32) -> i32
 }
 
 /// One reading of a sample, in the order of section 2.3 of the Description: multiply, add 128 or the stored sum, store.
-pub fn accumulate(stored: &mut i32, reading: u16, sample: Sample)
+pub fn accumulate(sample: Sample, reading: u16, stored: &mut i32)
     requires sample_value { SampleInRange sample }
     requires reading_value { reading_in_range reading ≡ true }
     requires stored_value { 1 < sample.n → entry_in_range stored.old ≡ true }
@@ -76,9 +76,9 @@ pub fn accumulate(stored: &mut i32, reading: u16, sample: Sample)
 {
     let n = sample.n;
     let product = multiply(sample.weight, reading);
-    let addend = pedestal_or_stored(n, *stored);
+    let addend = pedestal_or_stored(n, stored);
     let sum = product + addend;
     // n is at most nine; the library has no `From` of a `usize` for an `i32`.
     let mark = MARK + n as i32;
-    *stored = sum_or_mark(addend, is_above(reading, sample.threshold), mark, sum);
+    *stored = sum_or_mark(addend, is_above(sample.threshold, reading), mark, sum);
 }

@@ -3,7 +3,7 @@
 --     agrees_none                where nothing is fed, any sums agree
 --     agrees_one, agrees_all     a reading more, and then several
 --     agrees_full                where n whole samples are fed, each pixel holds the entry of n samples
---     undamaged                  an entry that was written is possible for its k
+--     written_possible           an entry that was written is possible for its k
 use Prim.Native.Nat.{ℕ, zero, suc, ◌+◌, ◌*◌, ◌/◌, ◌%◌, ◌≤◌, ◌<◌}
 use mathlib.Core.Bool.{true}
 use mathlib.Core.List.{List, [], ◌∷◌, ◌++◌, append-nil}
@@ -110,10 +110,10 @@ module _ (s : Settings) (r : InRange s) (m : ℕ) (some : 0 < m) where
     in_range_lem p zero = refl
     in_range_lem p (suc i) = every_each reading_in_range xs ok 0 refl (i * m + p)
 
-    pub undamaged : (sums : List ℤ) → Agrees s m xs sums → length xs ≤ 9 * m → (p : ℕ) → p < m → (k : ℕ) → samples_written m (length xs) p ≡ k → 1 ≤ k
+    pub written_possible : (sums : List ℤ) → Agrees s m xs sums → length xs ≤ 9 * m → (p : ℕ) → p < m → (k : ℕ) → samples_written m (length xs) p ≡ k → 1 ≤ k
         → possible s k (get_or sums p (pos 0)) ≡ true
-    undamaged sums a h p hp zero e l = absurd (omega arith)
-    undamaged sums a h p hp (suc i) e l =
+    written_possible sums a h p hp zero e l = absurd (omega arith)
+    written_possible sums a h p hp (suc i) e l =
         let w = rw (e, suc-mul) at (next (length xs) m some p hp) in
         let few : i < 9 = lt_of_mul-lt-mul_right m (omega arith) in
         rw (a.entry p i hp (omega arith) (omega arith)) (entry_possible s r (reading_of m xs p) (in_range_lem p) (suc i) few (omega arith))

@@ -4,6 +4,6 @@ pub mod Ready
 pub mod Bounds
 pub mod Pixel
 pub mod Agrees
-pub mod Honest
+pub mod HandedOn
 pub mod Laws
 pub mod Known

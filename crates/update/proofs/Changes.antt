@@ -1,4 +1,4 @@
--- A taken update changes exactly the fields whose bit stands.
+-- A taken update changes exactly the fields whose bit is set.
 use Prim.Native.Nat.{ℕ, zero, suc, ◌≤◌, ◌<◌}
 use mathlib.Core.Bool.{cond}
 use mathlib.Core.List.{List}
@@ -15,9 +15,9 @@ use Rattle.std.specs.Prelude.{Ok}
 use Rattle.record.specs.declared.Field.{Field}
 use Rattle.record.specs.declared.Field.TheVariants.{Weight, Threshold, Truncation, Samples}
 use Rattle.settings.specs.declared.Settings.{Settings}
-use Rattle.record.specs.Record.{stands, map_of, field_count, field_of, number_of, weight_of}
+use Rattle.record.specs.Record.{bit_set, map_of, field_count, field_of, number_of, weight_of}
 use Rattle.fields.specs.Fields.{with_field, with_bits}
-use Rattle.update.specs.Update.{update_of}
+use Rattle.update.specs.Update.{apply_record}
 use Rattle.update.specs.Laws.{value_in, meant_by}
 use Rattle.record.proofs.Fields.{weight_below, field_apart}
 
@@ -57,13 +57,13 @@ module _ (s : Settings) (bytes : List ℕ) where
   unfolding with_bits
   resulting_length zero = refl
   resulting_length (suc n) =
-      cases (stands (map_of bytes) n)
+      cases (bit_set (map_of bytes) n)
       (λ t. rw t (length_kept (number_of bytes n) (with_bits bytes n s) (field_of n) ∙ resulting_length n))
       (λ t. rw t (resulting_length n))
 
   -- what a taken update leaves in the field of a bit
   abbrev changed : ℕ → ℤ
-  changed bit = cond (stands (map_of bytes) bit) (meant_by (field_of bit) (number_of bytes bit)) (value_in (field_of bit) s)
+  changed bit = cond (bit_set (map_of bytes) bit) (meant_by (field_of bit) (number_of bytes bit)) (value_in (field_of bit) s)
 
   module _ (nine : length s.weights ≡ 9) (bit : ℕ) (h : bit < field_count) where
     abbrev value : ℕ → ℤ
@@ -72,7 +72,7 @@ module _ (s : Settings) (bytes : List ℕ) where
     elsewhere : (n : ℕ) → n < field_count → (bit ≡ n → ⊥) → value (suc n) ≡ value n
     unfolding with_bits
     elsewhere n k d =
-        cases (stands (map_of bytes) n)
+        cases (bit_set (map_of bytes) n)
         (λ t. rw t (untouched (number_of bytes n) (with_bits bytes n s) (field_of bit) (field_of n) (λ e. d (field_apart bit n h k e))))
         (λ t. rw t)
 
@@ -83,7 +83,7 @@ module _ (s : Settings) (bytes : List ℕ) where
     here : value (suc bit) ≡ changed bit
     unfolding with_bits
     here =
-        cases (stands (map_of bytes) bit)
+        cases (bit_set (map_of bytes) bit)
         (λ t. rw t (written (number_of bytes bit) (with_bits bytes bit s) (field_of bit) (λ i e. rw (resulting_length bit, nine) (weight_below bit i e))))
         (λ t. rw t (before bit (le_refl bit)))
 
@@ -97,7 +97,7 @@ module _ (s : Settings) (bytes : List ℕ) where
     pub resulting_value : value field_count ≡ changed bit
     resulting_value = after field_count h (le_refl field_count)
 
-pub changes_named : (s : Settings) (bytes : List ℕ) → length s.weights ≡ 9 → (update_of s bytes).answer ≡ Ok tt → (bit : ℕ) → bit < field_count
-    → value_in (field_of bit) (update_of s bytes).settings ≡ changed s bytes bit
-unfolding update_of
+pub changes_named : (s : Settings) (bytes : List ℕ) → length s.weights ≡ 9 → (apply_record s bytes).answer ≡ Ok tt → (bit : ℕ) → bit < field_count
+    → value_in (field_of bit) (apply_record s bytes).settings ≡ changed s bytes bit
+unfolding apply_record
 changes_named s bytes nine taken bit h = rw taken (resulting_value s bytes nine bit h)

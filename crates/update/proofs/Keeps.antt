@@ -20,9 +20,9 @@ use Rattle.record.specs.declared.Field.TheVariants.{Weight, Threshold, Truncatio
 use Rattle.settings.specs.declared.Settings.{Settings}
 use Rattle.settings.specs.Settings.{weight_in_range, max_samples, weights_in_range, in_range}
 use Rattle.settings.proofs.Parts.{Fields, fields_of, of_fields}
-use Rattle.record.specs.Record.{stands, map_of, field_count, field_of, number_of, weight_of}
+use Rattle.record.specs.Record.{bit_set, map_of, field_count, field_of, number_of, weight_of}
 use Rattle.fields.specs.Fields.{check_of, field_check, with_field, with_bit, with_bits, resulting}
-use Rattle.update.specs.Update.{update_checks, update_of}
+use Rattle.update.specs.Update.{record_checks, apply_record}
 
 size_in_range : (m : ℕ) → m < 16 → weight_in_range (neg_ℤ (pos m)) ≡ true
 size_in_range zero h = refl
@@ -31,7 +31,7 @@ size_in_range (suc m) h = true_and (le-leb m 14 (omega arith)) refl
 weight_in_range_lem : (b : ℕ) → weight_in_range (weight_of b) ≡ true
 unfolding weight_of
 weight_in_range_lem b =
-    cases (stands b 4) (λ e. rw e (size_in_range (b % 16) (omega arith))) (λ e. rw e (le-leb (b % 16) 15 (omega arith)))
+    cases (bit_set b 4) (λ e. rw e (size_in_range (b % 16) (omega arith))) (λ e. rw e (le-leb (b % 16) 15 (omega arith)))
 
 -- one weight written
 weights_kept : (ws : List ℤ) (i b : ℕ) → weights_in_range ws ≡ true → weights_in_range (set ws i (weight_of b)) ≡ true
@@ -53,7 +53,7 @@ module _ (s : Settings) (p : Fields s) (v : ℕ) where
 
 bit_kept : (bytes : List ℕ) (bit : ℕ) (s : Settings) → Fields s → field_check bytes bit ≡ Ok tt → Fields (with_bit bytes bit s)
 bit_kept bytes bit s p e =
-    cases (stands (map_of bytes) bit)
+    cases (bit_set (map_of bytes) bit)
     (λ t. rw t (field_kept s p (number_of bytes bit) (field_of bit) (rw t at e)))
     (λ t. rw t p)
 
@@ -64,10 +64,10 @@ fields_kept bytes (suc n) s p e =
     let q = both_taken _ _ (rw (verdict_each (field_check bytes) n) at e) in
     bit_kept bytes n (with_bits bytes n s) (fields_kept bytes n s p q.0) q.1
 
-pub stays_in_range : (s : Settings) (bytes : List ℕ) → in_range s ≡ true → in_range (update_of s bytes).settings ≡ true
-unfolding update_of
+pub stays_in_range : (s : Settings) (bytes : List ℕ) → in_range s ≡ true → in_range (apply_record s bytes).settings ≡ true
+unfolding apply_record
 stays_in_range s bytes e =
-    by (verdict (update_checks bytes))
+    by (verdict (record_checks bytes))
     (λ t. fields_kept bytes field_count s (fields_of s e) (verdict_rest _ _ (verdict_rest _ _ (verdict_rest _ _ t))))
   where
     by : (a : Answer) → (a ≡ Ok tt → Fields (resulting bytes s)) → in_range (by_answer a (resulting bytes s) s) ≡ true

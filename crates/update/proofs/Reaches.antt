@@ -20,9 +20,9 @@ use Rattle.record.specs.declared.Field.{Field}
 use Rattle.record.specs.declared.Field.TheVariants.{Threshold, Truncation, Samples}
 use Rattle.settings.specs.declared.Settings.{Settings}
 use Rattle.settings.specs.Settings.{weight_in_range, in_range}
-use Rattle.record.specs.Record.{stands, field_count, field_of, place_of, number_at, number_of, weight_of}
+use Rattle.record.specs.Record.{bit_set, field_count, field_of, offset_of, number_at, number_of, weight_of}
 use Rattle.fields.specs.Fields.{check_of, field_check, field_checks, resulting}
-use Rattle.update.specs.Update.{update_checks, update_of}
+use Rattle.update.specs.Update.{record_checks, apply_record}
 use Rattle.update.specs.Laws.{value_in, meant_by, taken}
 use Rattle.record.proofs.Fields.{field_cases}
 use Rattle.settings.proofs.Parts.{InRange, in_range_parts}
@@ -39,7 +39,7 @@ record Encoded (z : ℤ) : Type 0 where
   pub back : weight_of (byte_of z) ≡ z
 
 encoded : (z : ℤ) → weight_in_range z ≡ true → Encoded z
-unfolding weight_of stands
+unfolding weight_of bit_set
 encoded (pos n) e =
     let h : n ≤ 15 = leb-true n 15 e in
     record { small = omega arith; back = rw (ne_eqb (n / 2 ^ 4 % 2) 1 (λ q. omega arith)) (ap pos (omega arith)) }
@@ -54,13 +54,13 @@ encoded (negsuc n) e =
 abbrev all_fields : ℕ
 all_fields = 2 ^ field_count - 1
 
-every_stands : (bit : ℕ) → bit < field_count → stands all_fields bit ≡ true
-unfolding every each stands
-every_stands = table (stands all_fields) field_count refl
+every_stands : (bit : ℕ) → bit < field_count → bit_set all_fields bit ≡ true
+unfolding every each bit_set
+every_stands = table (bit_set all_fields) field_count refl
 
-weight_place : (i : ℕ) → i < 9 → place_of all_fields i ≡ suc (suc i)
-unfolding every each place_of stands field_of
-weight_place i h = eqb-true _ _ (table (λ k. eqb (place_of all_fields k) (suc (suc k))) 9 refl i h)
+weight_place : (i : ℕ) → i < 9 → offset_of all_fields i ≡ suc (suc i)
+unfolding every each offset_of bit_set field_of
+weight_place i h = eqb-true _ _ (table (λ k. eqb (offset_of all_fields k) (suc (suc k))) 9 refl i h)
 
 -- ---- settings that hold the same in every field are the same
 
@@ -94,7 +94,7 @@ module _ (s : Settings) (p : InRange s) where
   weight_code : (i : ℕ) → Encoded (get_or s.weights i (pos 0))
   weight_code i = encoded (get_or s.weights i (pos 0)) (p.weights i)
 
-  weight_number : (i : ℕ) → i < 9 → get_or bytes (place_of all_fields i) 0 ≡ weight_byte i
+  weight_number : (i : ℕ) → i < 9 → get_or bytes (offset_of all_fields i) 0 ≡ weight_byte i
   weight_number i h =
       rw (weight_place i h)
       (get_or-append (each weight_byte 9) last 0 i (rw (each_length weight_byte 9) h) ∙ each_at weight_byte 9 i 0 h)
@@ -104,23 +104,23 @@ module _ (s : Settings) (p : InRange s) where
     pub meant : meant_by f v ≡ value_in f s
     pub fine : check_of f v ≡ Ok tt
 
-  right_threshold : Right Threshold (number_at Threshold bytes (place_of all_fields 9))
-  unfolding each place_of stands field_of
+  right_threshold : Right Threshold (number_at Threshold bytes (offset_of all_fields 9))
+  unfolding each offset_of bit_set field_of
   right_threshold =
       let e : s.threshold % 256 + 256 * (s.threshold / 256) ≡ s.threshold = omega arith in
       record { meant = ap pos e; fine = rw (e, le-leb _ _ p.threshold) }
 
-  right_truncation : Right Truncation (number_at Truncation bytes (place_of all_fields 10))
-  unfolding each place_of stands field_of
+  right_truncation : Right Truncation (number_at Truncation bytes (offset_of all_fields 10))
+  unfolding each offset_of bit_set field_of
   right_truncation = record { meant = refl; fine = rw (le-leb _ _ p.truncation_low, le-leb _ _ p.truncation_high) }
 
-  right_samples : Right Samples (number_at Samples bytes (place_of all_fields 11))
-  unfolding each place_of stands field_of
+  right_samples : Right Samples (number_at Samples bytes (offset_of all_fields 11))
+  unfolding each offset_of bit_set field_of
   right_samples = record { meant = refl; fine = rw (le-leb _ _ p.samples_low, le-leb _ _ p.samples_high) }
 
   right : (bit : ℕ) → bit < field_count → Right (field_of bit) (number_of bytes bit)
   right bit h =
-      field_cases (λ f. Right f (number_at f bytes (place_of all_fields bit))) bit
+      field_cases (λ f. Right f (number_at f bytes (offset_of all_fields bit))) bit
       (λ l. rw (weight_number bit l) (record { meant = (weight_code bit).back; fine = rw (le-ltb _ _ (weight_code bit).small) }))
       (λ e. rw e right_threshold)
       (λ e. rw e right_truncation)
@@ -136,12 +136,12 @@ module _ (s : Settings) (p : InRange s) where
   none_refused : verdict (field_checks bytes) ≡ Ok tt
   none_refused = verdict_none (field_check bytes) field_count (λ bit h. rw (every_stands bit h) (right bit h).fine)
 
-  is_taken : verdict (update_checks bytes) ≡ Ok tt
-  unfolding verdict each any_of place_of stands field_of
+  is_taken : verdict (record_checks bytes) ≡ Ok tt
+  unfolding verdict each any_of offset_of bit_set field_of
   is_taken = none_refused
 
-  whole : (t : Settings) → length t.weights ≡ 9 → update_of t bytes ≡ taken s
-  unfolding update_of
+  whole : (t : Settings) → length t.weights ≡ 9 → apply_record t bytes ≡ taken s
+  unfolding apply_record
   whole t nine =
       rw is_taken
       (ap taken
@@ -149,5 +149,5 @@ module _ (s : Settings) (p : InRange s) where
       (λ bit h. resulting_value t bytes nine bit h ∙ rw (every_stands bit h) (right bit h).meant)))
 
 pub reachable : (s t : Settings) → in_range s ≡ true → length t.weights ≡ 9
-    → (bytes : List ℕ) × (every (λ b. ltb b 256) bytes ≡ true) × (update_of t bytes ≡ taken s)
+    → (bytes : List ℕ) × (every (λ b. ltb b 256) bytes ≡ true) × (apply_record t bytes ≡ taken s)
 reachable s t e nine = let p = in_range_parts s e in (bytes s p, are_bytes s p, whole s p t nine)

@@ -3,7 +3,7 @@ use Rattle.std.specs.Prelude.{ℕ, List, [], ◌∷◌, ◌≡◌, ℤ, pos, neg
 use Rattle.laws.specs.Tables.{AllHold}
 use Rattle.settings.specs.declared.Settings.{Settings}
 use Rattle.settings.specs.Settings.{with_weights, with_threshold, with_truncation, with_samples}
-use Rattle.update.specs.Update.{update_of}
+use Rattle.update.specs.Update.{apply_record}
 use Rattle.update.specs.Laws.{taken, refused_with}
 use Rattle.checks.specs.declared.Reason.{Reason}
 use Rattle.checks.specs.declared.Reason.TheVariants.{ShortRecord, UnknownField, RecordLength, WeightRange, ThresholdRange, TruncationRange, SamplesRange}
@@ -15,8 +15,8 @@ pub data Known : Type 0 where
 
 -- a row follows from the definitions, whatever the settings are
 abbrev pub Holds : Settings → Known → Type 0
-Holds s (refused bytes reason) = update_of s bytes ≡ refused_with reason s
-Holds s (makes bytes change) = update_of s bytes ≡ taken (change s)
+Holds s (refused bytes reason) = apply_record s bytes ≡ refused_with reason s
+Holds s (makes bytes change) = apply_record s bytes ≡ taken (change s)
 
 -- settings with another first weight
 abbrev with_first : ℤ → Settings → Settings

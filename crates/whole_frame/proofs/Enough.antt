@@ -21,19 +21,19 @@ use Rattle.checks.proofs.Laws.{first_taken, verdict_append}
 use Rattle.record.specs.Record.{map_of, unknown_bit}
 use Rattle.update.proofs.Overlong.{longest, overlong}
 use Rattle.board.specs.declared.Board.{Board}
-use Rattle.board.specs.Board.{area, wanted, unsound}
+use Rattle.board.specs.Board.{board_area, wanted, unsound}
 use Rattle.board.specs.Open.{open_of}
 use Rattle.operations.specs.Update.{update_of}
 use Rattle.board.specs.RampChecks.{ramp_checks}
 use Rattle.operations.specs.Feed.{reading_checks, feed_checks, feed_of}
 use Rattle.board.proofs.Soundness.{sound_parts, wanted_nine}
 use Rattle.board.proofs.Checked.{ramp_taken}
-use Rattle.begin.specs.Begun.{updated, started}
+use Rattle.begin.specs.Begin.{updated, started}
 use Rattle.begin.proofs.Beginning.{started_area}
 use Rattle.whole_frame.specs.Chain.{frame_answer, frame_words}
 
 -- what Feed answers to too many readings
-crowded : (b : Board) (xs : List ℕ) (sums : List ℤ) → 9 * area b < length xs
+crowded : (b : Board) (xs : List ℕ) (sums : List ℤ) → 9 * board_area b < length xs
     → verdict (feed_checks b xs sums) ≡ first (verdict (ramp_checks b (length sums))) (Err (refusal TooManyReadings))
 unfolding verdict
 crowded b xs sums h = verdict_append (ramp_checks b (length sums)) (reading_checks b xs sums) ∙ by (verdict (ramp_checks b (length sums))) refl

@@ -1,6 +1,8 @@
 -- A ramp that is fed at once.
---     frame_is          the answer of the three, then those of Feed and of Read out
+--     frame_is          the answer of the three, then that of Feed and Read out
+--     answer_on, sums_on, words_on     where none of the three refuses, what the two come to on their board
 --     then_read_out     after a taken Feed only 15 and 16 of Read out can refuse
+--     two_taken         neither of the two refuses
 --     frame_feedable, frame_readable, sums_are, words_are     where neither refuses, what the passes need and what they leave
 use Prim.Native.Nat.{ℕ, ◌+◌, ◌*◌, ◌≤◌, ◌<◌}
 use mathlib.Core.Bool.{Bool, true, not}
@@ -21,14 +23,14 @@ use Rattle.checks.proofs.Search.{found_every}
 use Rattle.entries.specs.Possible.{possible}
 use Rattle.step.specs.Step.{step}
 use Rattle.sums.specs.Feed.{sums_after}
-use Rattle.ramp.specs.Requires.{Feedable}
+use Rattle.ramp.specs.SupportRequires.{Feedable}
 use Rattle.sums.proofs.Feeding.{feed_length}
 use Rattle.sums.proofs.Agrees.{agrees_none, agrees_all}
-use Rattle.sums.proofs.Honest.{all_possible}
+use Rattle.sums.proofs.HandedOn.{all_possible}
 use Rattle.encoding.specs.Frame.{word_count, frame_of}
-use Rattle.layout.specs.Requires.{Readable}
+use Rattle.layout.specs.SupportRequires.{Readable}
 use Rattle.board.specs.declared.Board.{Board}
-use Rattle.board.specs.Board.{area, wanted}
+use Rattle.board.specs.Board.{board_area, wanted}
 use Rattle.board.specs.RampChecks.{ramp_checks}
 use Rattle.operations.specs.Feed.{feed_checks, extended, feed_of, fed_sums}
 use Rattle.operations.specs.ReadOut.{read_out_checks, read_out_of, read_out_words}
@@ -39,19 +41,32 @@ use Rattle.feed.proofs.Feedable.{feedable}
 use Rattle.operations.proofs.ReadOutChecked.{read_out_taken}
 use Rattle.read_out.proofs.Readable.{readable_frame}
 use Rattle.operations.proofs.Laws.{laws}
-use Rattle.begin.specs.Begun.{started, begun}
+use Rattle.begin.specs.Begin.{started, begin_of}
 use Rattle.begin.proofs.Beginning.{begun_then}
-use Rattle.whole_frame.specs.Chain.{fed, read_out, frame_answer}
+use Rattle.whole_frame.specs.Chain.{read_out_after, frame_answer_on, frame_sums_on, frame_words_on, frame_answer, frame_sums, frame_words}
 
 pub frame_is : (w h : ℕ) (binned : Bool) (bytes : List ℕ) (xs : List ℕ) (sums : List ℤ) (output : List ℕ)
     → let b = (started w h binned bytes).board in
-    frame_answer w h binned bytes xs sums output ≡ first (begun w h binned bytes).answer (first (fed b xs sums).answer (read_out b xs sums output).answer)
-unfolding frame_answer verdict
+    frame_answer w h binned bytes xs sums output ≡ first (begin_of w h binned bytes).answer (frame_answer_on b xs sums output)
+unfolding frame_answer frame_answer_on verdict
 frame_is w h binned bytes xs sums output =
     let b = (started w h binned bytes).board in
-    let f = (fed b xs sums).answer in
-    let r = (read_out b xs sums output).answer in
-    begun_then w h binned bytes (f ∷ r ∷ []) ∙ ap (λ a. first (begun w h binned bytes).answer (first f a)) (first_taken r)
+    let f = (feed_of b xs sums).answer in
+    let r = (read_out_after b xs sums output).answer in
+    begun_then w h binned bytes (f ∷ r ∷ []) ∙ ap (λ a. first (begin_of w h binned bytes).answer (first f a)) (first_taken r)
+
+-- on the board that Open, Update and Start leave, where none of them refuses
+module _ (w h : ℕ) (binned : Bool) (bytes : List ℕ) (b : Board) (begun : ((begin_of w h binned bytes).answer ≡ Ok tt) × ((started w h binned bytes).board ≡ b)) (xs : List ℕ) (sums : List ℤ) (output : List ℕ) where
+  pub answer_on : frame_answer_on b xs sums output ≡ frame_answer w h binned bytes xs sums output
+  answer_on = rw (frame_is w h binned bytes xs sums output, begun.0, begun.1)
+
+  pub sums_on : frame_sums_on b xs sums output ≡ frame_sums w h binned bytes xs sums output
+  unfolding frame_sums_on frame_sums
+  sums_on = rw (answer_on, begun.1)
+
+  pub words_on : frame_words_on b xs sums output ≡ frame_words w h binned bytes xs sums output
+  unfolding frame_words_on frame_words
+  words_on = rw (answer_on, begun.1)
 
 module _ (b : Board) (none : b.fed ≡ 0) (xs : List ℕ) (sums : List ℤ) (taken : verdict (feed_checks b xs sums) ≡ Ok tt) where
   parts : FeedTaken b xs sums
@@ -79,7 +94,7 @@ module _ (b : Board) (none : b.fed ≡ 0) (xs : List ℕ) (sums : List ℤ) (tak
       let few : length xs ≤ 9 * m = rw l (omega (arith, parts.room, wanted_nine b w)) in
       all_possible s r m some xs parts.readings few left (agrees_all s r m some [] xs sums (agrees_none s r m some sums refl)) s.samples r.samples_low all
 
-  after : (output : List ℕ) → (read_out b xs sums output).answer ≡ verdict (read_out_checks (extended (length xs) b) left output)
+  after : (output : List ℕ) → (read_out_after b xs sums output).answer ≡ verdict (read_out_checks (extended (length xs) b) left output)
   unfolding feed_of fed_sums read_out_of left
   after output = rw (taken, none)
 
@@ -92,8 +107,8 @@ module _ (b : Board) (none : b.fed ≡ 0) (xs : List ℕ) (sums : List ℤ) (tak
         length_is = left_length ∙ parts.ramp.length_is;
       })
 
-  pub then_read_out : (output : List ℕ) → (read_out b xs sums output).answer
-      ≡ first (when (ltb (length xs) (wanted b)) ReadingsWanted) (when (not (eqb (length output) (word_count b.sides.binned (area b)))) WordsLength)
+  pub then_read_out : (output : List ℕ) → (read_out_after b xs sums output).answer
+      ≡ first (when (ltb (length xs) (wanted b)) ReadingsWanted) (when (not (eqb (length output) (word_count b.sides.binned (board_area b)))) WordsLength)
   unfolding verdict
   then_read_out output =
       let z : b.fed + length xs ≡ length xs = omega arith in
@@ -102,10 +117,14 @@ module _ (b : Board) (none : b.fed ≡ 0) (xs : List ℕ) (sums : List ℤ) (tak
       (λ e. rw e)
       (λ e. rw (e, found_every (possible b.in_force b.in_force.samples) left (pos 0) (entries_possible (ltb-false _ _ e))) (first_taken _)))
 
-module _ (b : Board) (xs : List ℕ) (sums : List ℤ) (output : List ℕ) (taken : first (fed b xs sums).answer (read_out b xs sums output).answer ≡ Ok tt) where
+module _ (b : Board) (xs : List ℕ) (sums : List ℤ) (output : List ℕ) (taken : frame_answer_on b xs sums output ≡ Ok tt) where
+  pub two_taken : ((feed_of b xs sums).answer ≡ Ok tt) × ((read_out_after b xs sums output).answer ≡ Ok tt)
+  unfolding frame_answer_on
+  two_taken = both_taken (feed_of b xs sums).answer _ taken
+
   feed_passed : verdict (feed_checks b xs sums) ≡ Ok tt
   unfolding feed_of
-  feed_passed = (both_taken (fed b xs sums).answer _ taken).0
+  feed_passed = two_taken.0
 
   -- the sums that Feed leaves
   abbrev summed : List ℤ
@@ -120,11 +139,11 @@ module _ (b : Board) (xs : List ℕ) (sums : List ℤ) (output : List ℕ) (take
 
   read_out_passed : verdict (read_out_checks (extended (length xs) b) summed output) ≡ Ok tt
   unfolding feed_of fed_sums read_out_of
-  read_out_passed = rw feed_passed at (both_taken (fed b xs sums).answer _ taken).1
+  read_out_passed = rw feed_passed at two_taken.1
 
   pub frame_readable : Readable b.sides.width b.sides.height b.sides.binned b.in_force.truncation summed output
   frame_readable = readable_frame (extended (length xs) b) summed output (read_out_taken (extended (length xs) b) summed output read_out_passed)
 
-  pub words_are : read_out_words (fed b xs sums).board (fed_sums b xs sums) output ≡ frame_of b.sides.width b.sides.binned b.in_force.truncation summed
+  pub words_are : read_out_words (feed_of b xs sums).board (fed_sums b xs sums) output ≡ frame_of b.sides.width b.sides.binned b.in_force.truncation summed
   unfolding feed_of fed_sums read_out_words
   words_are = rw (feed_passed, read_out_passed)

@@ -15,7 +15,7 @@ use Rattle.laws.proofs.Tests.{clash}
 use Rattle.entries.specs.Mark.{marked, sample_of}
 use Rattle.entries.proofs.Marks.{sample_is}
 use Rattle.encoding.specs.Word.{smaller}
-use Rattle.entries.specs.Range.{entry_in_range}
+use Rattle.entries.specs.SupportRange.{entry_in_range}
 use Rattle.entries.proofs.Range.{Small, by_kind, range}
 
 pub apart : (e : ℤ) → entry_in_range e ≡ true → SFits w32 (e -ℤ pos 1073741824)

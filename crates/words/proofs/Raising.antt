@@ -19,7 +19,7 @@ use Rattle.entries.specs.Mark.{mark, marked, sample_of}
 use Rattle.entries.proofs.Marks.{is_marked, sample_is, sample_none}
 use Rattle.entries.proofs.Wraps.{by_wrap}
 use Rattle.encoding.specs.Word.{smaller}
-use Rattle.entries.specs.Range.{entry_in_range}
+use Rattle.entries.specs.SupportRange.{entry_in_range}
 use Rattle.entries.proofs.Range.{Small, by_kind}
 use Rattle.words.proofs.Entries.{no_sample}
 

@@ -9,7 +9,7 @@ use lib.IntN.{ℤ, pos, ◌+ℤ◌, ◌-ℤ◌}
 use mir.Syntax.{w32}
 use Rattle.std.specs.Int.{int_wrap, int_min}
 use Rattle.entries.specs.Mark.{marked, sample_of}
-use Rattle.entries.specs.Range.{entry_in_range}
+use Rattle.entries.specs.SupportRange.{entry_in_range}
 use Rattle.encoding.specs.Word.{smaller, smallest_mark}
 use Rattle.words.proofs.Entries.{none_both}
 use Rattle.words.proofs.Raising.{Raised, entry_raised, lower, sum_raised, whole}

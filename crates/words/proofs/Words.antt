@@ -1,6 +1,6 @@
 -- A word, from a sample or a total.
 --     kept                       a sample is left as it is by the mask
---     cut_word, cut_lt, cut_is    the word of a total
+--     cut_word, cut_lt           the word of a total
 --     pixel, square              what the code computes is the word
 use Prim.Native.Nat.{ℕ, suc, ◌+◌, ◌-◌, ◌*◌, ◌/◌, ◌%◌, ◌^◌, ◌≤◌, ◌<◌}
 use mathlib.Core.Bool.{Bool, true, false, cond}
@@ -10,17 +10,18 @@ use mathlib.Core.Path.{◌≡◌, refl, ap, ◌∙◌}
 use native.Mathlib.Nat.{mod-eq_of_lt, mod-lt, lt_of_lt_of_le, one-mul, mul_comm}
 use native.Mathlib.Omega.{arith}
 use borrow.Author.Tests.{le-ltb}
-use lib.Bits.{bit_and, bit_or, and_mask, and_comm, or_mod, or_add_and}
+use lib.Bits.{bit_and, and_mask}
 use lib.IntN.{ℤ, pos, negsuc, ◌+ℤ◌, ◌-ℤ◌, nat_abs, +ℤ_idr, +ℤ_assoc}
 use lib.ListN.{length}
 use lib.Pow.{pow-add, pow_pos}
-use lib.Signed.{lt_z, ◌≤ℤ◌, shr_z}
+use lib.Signed.{lt_z, ◌≤ℤ◌}
 use mir.Syntax.{w32}
 use mir.Val.{to_z, of_z}
 use mir.Facts.{to_z_pos}
 use Rattle.laws.specs.Lists.{total}
 use Rattle.laws.proofs.Ints.{signed}
 use Rattle.laws.proofs.Numbers.{less}
+use Rattle.word_codes.specs.Codes.{saturated_at, negative_code, word_modulus}
 use Rattle.entries.specs.Mark.{marked, sample_of}
 use Rattle.entries.proofs.Marks.{is_marked, sample_is, sample_none, by_mark}
 use Rattle.encoding.specs.Word.{smaller, smallest_mark, is_negative, cut_by, word_by, word_of}
@@ -33,12 +34,12 @@ kept (negsuc n) h = absurd (omega signed)
 
 -- the word of a total: the sign rule, or what is left once it is cut
 abbrev pub cut_word : ℕ → ℤ → ℕ
-cut_word d z = cond (lt_z z (pos 0)) 32767 (cut_by d z)
+cut_word d z = cond (lt_z z (pos 0)) negative_code (cut_by d z)
 
-pub cut_lt : (d : ℕ) (z : ℤ) → cut_word d z < 32768
+pub cut_lt : (d : ℕ) (z : ℤ) → cut_word d z < word_modulus
 cut_lt d z = either (lt_z z (pos 0)) (nat_abs z / d)
   where
-    either : (t : Bool) (n : ℕ) → cond t 32767 (n % 32768) < 32768
+    either : (t : Bool) (n : ℕ) → cond t negative_code (n % word_modulus) < word_modulus
     either true n = omega arith
     either false n = omega arith
 
@@ -46,25 +47,7 @@ cut_lt d z = either (lt_z z (pos 0)) (nat_abs z / d)
 masked : (x k : ℕ) → 2 ^ k ≤ 2147483648 → to_z w32 (bit_and x (2 ^ k - 1)) ≡ pos (x % 2 ^ k)
 masked x k h = ap (to_z w32) (and_mask x k) ∙ to_z_pos w32 {n = x % 2 ^ k} (lt_of_lt_of_le (mod-lt x (pow_pos k)) h)
 
--- ones throughout
-ones : (y : ℕ) → bit_or 4294967295 y % 32768 ≡ 32767
-ones y =
-    let b = y % 32768 in
-    let e = and_comm 32767 b ∙ and_mask b 15 ∙ mod-eq_of_lt (omega arith) in
-    or_mod 4294967295 y 15 ∙ rest (bit_or 32767 b) (bit_and 32767 b) b (or_add_and 32767 b) e
-  where
-    rest : (o a b : ℕ) → o + a ≡ 32767 + b → a ≡ b → o ≡ 32767
-    rest o a b h e = omega arith
-
-cut_by_sign : (d : ℕ) (z : ℤ) → bit_or (cond (lt_z z (pos 0)) 4294967295 0) (of_z w32 (shr_z z d)) % 32768 ≡ cut_word d z
-cut_by_sign d (pos n) = rw (le-ltb n 0 (omega arith))
-cut_by_sign d (negsuc n) = ones (of_z w32 (negsuc (n / d)))
-
-pub cut_is : (d : ℕ) (z y : ℤ) (sign : ℕ) → y ≡ z → sign ≡ cond (lt_z z (pos 0)) 4294967295 0
-    → to_z w32 (bit_and (bit_or sign (of_z w32 (shr_z y d))) 32767) ≡ pos (cut_word d z)
-cut_is d z y sign e h = rw (e, h) (masked _ 15 (omega arith) ∙ ap pos (cut_by_sign d z))
-
-pub pixel : (e : ℤ) (r : ℕ) → cond (marked e) (32752 + nat_abs (e -ℤ pos 1073741824)) (cut_word (2 ^ r) e) ≡ word_of r (e ∷ [])
+pub pixel : (e : ℤ) (r : ℕ) → cond (marked e) (saturated_at (nat_abs (e -ℤ pos 1073741824))) (cut_word (2 ^ r) e) ≡ word_of r (e ∷ [])
 unfolding smallest_mark is_negative total
 pixel e r =
     by_mark e
@@ -99,7 +82,7 @@ pub last_range : (z : ℤ) → (pos 0 ≤ℤ last_bits z) × (last_bits z ≤ℤ
 last_range z = rw (last_is (of_z w32 z)) (omega signed, omega signed)
 
 word_of_lem : (r : ℕ) (es : List ℤ) (o : Option ℕ) (z t : ℤ) → Raised o z → (o ≡ None → t ≡ total es)
-    → cond (lt_z z (pos 0)) (32752 + nat_abs (last_bits z)) (cut_word (length es * 2 ^ r) t) ≡ word_by r o es
+    → cond (lt_z z (pos 0)) (saturated_at (nat_abs (last_bits z))) (cut_word (length es * 2 ^ r) t) ≡ word_by r o es
 unfolding is_negative
 word_of_lem r es None (pos m) t f h = rw (le-ltb m 0 (omega arith), h refl)
 word_of_lem r es None (negsuc m) t f h = absurd (omega arith)
@@ -108,7 +91,7 @@ word_of_lem r es (Some n) (negsuc m) t f h = rw (last_is (4294967296 - suc m)) (
 
 pub square : (a b c d : ℤ) (r : ℕ) (z t : ℤ) → let o = smallest_mark (a ∷ b ∷ c ∷ d ∷ []) in
     Raised o z → (o ≡ None → t ≡ a +ℤ b +ℤ (c +ℤ d))
-    → cond (lt_z z (pos 0)) (32752 + nat_abs (last_bits z)) (cut_word (2 ^ (r + 2)) t) ≡ word_of r (a ∷ b ∷ c ∷ d ∷ [])
+    → cond (lt_z z (pos 0)) (saturated_at (nat_abs (last_bits z))) (cut_word (2 ^ (r + 2)) t) ≡ word_of r (a ∷ b ∷ c ∷ d ∷ [])
 unfolding total
 square a b c d r z t f h =
     let es = a ∷ b ∷ c ∷ d ∷ [] in

@@ -5,11 +5,16 @@
 ghost use Rattle.std.specs.Prelude.{◌≡◌, true, cond, [], ◌∷◌, ◌+◌, ◌^◌, ◌<◌, ◌≤◌, pos, nat_abs, ◌+ℤ◌, ◌-ℤ◌, ◌≤ℤ◌};
 ghost use Rattle.std.specs.Int.Signed.{lt_z};
 ghost use Rattle.settings.specs.Settings.{truncation_in_range};
+ghost use Rattle.word_codes.specs.Codes.{saturated_at, negative_code, word_modulus};
 ghost use Rattle.entries.specs.Mark.{marked};
 ghost use Rattle.encoding.specs.Word.{word_of, cut_by};
-ghost use Rattle.entries.specs.Range.{entry_in_range};
+ghost use Rattle.entries.specs.SupportRange.{entry_in_range};
 
 use entries::MARK;
+use word_codes::{NEGATIVE_CODE, ORDINARY_END};
+
+// The last word and one more: an ordinary word is a divided sum's remainder by it.
+const WORD_MODULUS: u32 = 32768;
 
 // An entry and 2^30, modulo 2^32: a sum is then above 0, and a mark below it, of two marks the earlier one lower. The total of four is left as it was.
 fn raised(entry: i32) -> i32
@@ -19,24 +24,27 @@ fn raised(entry: i32) -> i32
     entry.wrapping_add(MARK)
 }
 
-// The sign is taken before anything is cut off: a negative total has ones throughout. `as` reads the 15 bits that are left, where a `TryFrom` would ask each word.
-fn cut_off(total: i32, shift: u16) -> u32
+// The sign is taken before anything is cut off: only a total that isn't negative is divided, and so fits the cast, where a `TryFrom` would ask each word.
+fn cut_off(shift: u16, total: i32) -> u32
     requires { shift ≤ 5 }
-    ensures { result ≡ cond (lt_z total (pos 0)) 32767 (cut_by (2 ^ shift) total) }
+    ensures { result ≡ cond (lt_z total (pos 0)) negative_code (cut_by (2 ^ shift) total) }
 {
-    let sign = if total < 0 { -1 } else { 0 };
-    ((sign | total >> shift) & 32767) as u32
+    if total < 0 {
+        NEGATIVE_CODE.into()
+    } else {
+        (total as u32 >> shift) % WORD_MODULUS
+    }
 }
 
-// A mark's word, or the other: `marked` picks one of two numbers at hand. The mask leaves a sample as it is, and shows the compiler that both words have 15 bits; `as`
+// A mark's word, or the other: `is_marked` picks one of two numbers at hand. The mask leaves a sample as it is, and shows the compiler that both words have 15 bits; `as`
 // keeps 16 of them, where a `TryFrom` would ask each word.
-fn flagged(marked: bool, sample: i32, word: u32) -> u16
-    requires pos_bound { marked ≡ true → (pos 0 ≤ℤ sample) × (sample ≤ℤ pos 15) }
-    requires word_bound { word < 32768 }
-    ensures { result ≡ cond marked (32752 + nat_abs sample) word }
+fn mark_or_cut(is_marked: bool, sample: i32, word: u32) -> u16
+    requires pos_bound { is_marked ≡ true → (pos 0 ≤ℤ sample) × (sample ≤ℤ pos 15) }
+    requires word_bound { word < word_modulus }
+    ensures { result ≡ cond is_marked (saturated_at (nat_abs sample)) word }
 {
-    let shown = if marked {
-        32752 + (sample as u32 & 15)
+    let shown = if is_marked {
+        u32::from(ORDINARY_END) + (sample as u32 & 15)
     } else {
         word
     };
@@ -44,16 +52,16 @@ fn flagged(marked: bool, sample: i32, word: u32) -> u16
 }
 
 /// The word of a pixel.
-pub fn pixel_word(entry: i32, truncation: u16) -> u16
+pub fn pixel_word(truncation: u16, entry: i32) -> u16
     requires value { entry_in_range entry ≡ true }
     requires truncation_value { truncation_in_range truncation ≡ true }
     ensures { result ≡ word_of truncation (entry ∷ []) }
 {
-    flagged(entry > MARK, entry - MARK, cut_off(entry, truncation))
+    mark_or_cut(entry > MARK, entry - MARK, cut_off(truncation, entry))
 }
 
 /// The word of a square.
-pub fn square_word(a: i32, b: i32, c: i32, d: i32, truncation: u16) -> u16
+pub fn square_word(truncation: u16, a: i32, b: i32, c: i32, d: i32) -> u16
     requires a_value { (entry_in_range a ≡ true) × (entry_in_range b ≡ true) }
     requires c_value { (entry_in_range c ≡ true) × (entry_in_range d ≡ true) }
     requires truncation_value { truncation_in_range truncation ≡ true }
@@ -65,5 +73,5 @@ pub fn square_word(a: i32, b: i32, c: i32, d: i32, truncation: u16) -> u16
     let t = raised(d);
     let first = p.min(q).min(s.min(t));
     let total = p.wrapping_add(q).wrapping_add(s.wrapping_add(t));
-    flagged(first < 0, first & 15, cut_off(total, truncation + 2))
+    mark_or_cut(first < 0, first & 15, cut_off(truncation + 2, total))
 }

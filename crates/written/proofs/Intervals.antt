@@ -18,7 +18,7 @@ use Rattle.std.specs.Prelude.{None}
 use Rattle.std.specs.Option.{option_or}
 use Rattle.checks.specs.Search.{first_place, shifted}
 use Rattle.checks.proofs.Search.{nowhere, found_none, found_same, found_append, found_cut, else_none}
-use Rattle.written.specs.Written.{samples_written, not_possible_at}
+use Rattle.written.specs.Written.{samples_written, impossible_at}
 use Rattle.written.proofs.Places.{same_sample, place, next}
 
 -- The next reading of a pixel p that has had k samples is number k × m + p. A count of readings comes, from number f on.
@@ -48,7 +48,7 @@ module _ {E : Type 0} (absent : E) (test : ℕ → E → Bool) (m f count : ℕ)
   here = place f m some
 
   abbrev bad : ℕ → Bool
-  bad = not_possible_at absent test m f count ss
+  bad = impossible_at absent test m f count ss
 
   abbrev fails : ℕ → ℕ → Bool
   fails k p = not (test k (get_or ss p absent))

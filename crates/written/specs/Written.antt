@@ -7,7 +7,7 @@ samples_written m f p = f / m + cond (ltb p (f % m)) 1 0
 
 -- Pixel p has had k samples, k from 1, so that its next reading is number k × m + p. This Feed brings the numbers from f to f + count − 1.
 -- `absent` stands for an entry past the end, where none is asked for.
-abbrev pub not_possible_at : {E : Type 0} → E → (ℕ → E → Bool) → ℕ → ℕ → ℕ → List E → ℕ → Bool
-not_possible_at absent test m f count sums p =
+abbrev pub impossible_at : {E : Type 0} → E → (ℕ → E → Bool) → ℕ → ℕ → ℕ → List E → ℕ → Bool
+impossible_at absent test m f count sums p =
     let k = samples_written m f p in
     leb 1 k && ltb (k * m + p) (f + count) && not (test k (get_or sums p absent))

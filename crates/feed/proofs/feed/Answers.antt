@@ -6,8 +6,8 @@ use Rattle.operations.proofs.FeedChecked.{feed_taken}
 use Rattle.feed.proofs.Feedable.{feedable}
 use Rattle.feed.proofs.feed.Goals as goal
 
-pub feed-requires : goal.feed-requires
-feed-requires c = feedable _ _ _ (feed_taken _ _ _ (sym c.in_ok-check_feed.ensures))
+pub write_sums-requires : goal.write_sums-requires
+write_sums-requires c = feedable _ _ _ (feed_taken _ _ _ (sym c.in_ok-check_feed.ensures))
 
 pub overflow_add-board : goal.overflow_add-board
 overflow_add-board c =

@@ -8,7 +8,7 @@ use mir.Val.{to_z, of_z}
 use Rattle.laws.proofs.Ints.{back}
 use Rattle.laws.proofs.Tests.{and_true}
 use Rattle.entries.specs.Mark.{mark}
-use Rattle.impossible.specs.Near.{nearness}
+use Rattle.impossible.specs.SupportNear.{nearness}
 use Rattle.impossible.proofs.Near.{quarters_possible}
 use Rattle.impossible.proofs.all_near.Goals as goal
 

@@ -2,7 +2,7 @@
 use Rattle.std.proofs.Common.{◌+◌, ◌*◌, rules, arith, pos, get_or}
 use Rattle.laws.specs.Lists.{each}
 use Rattle.laws.proofs.Each.{each_store}
-use Rattle.layout.specs.Requires.{row_word}
+use Rattle.layout.specs.SupportRequires.{row_word}
 use Rattle.layout.proofs.Held.{held}
 use Rattle.layout.proofs.write_row.Goals as goal
 

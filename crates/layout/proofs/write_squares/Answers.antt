@@ -7,8 +7,8 @@ use Rattle.laws.proofs.Each.{each_part}
 use Rattle.laws.proofs.Parts.{part_length, part_keeps}
 use Rattle.encoding.specs.Frame.{word_at, frame_of}
 use Rattle.encoding.proofs.Grid.{sides}
-use Rattle.entries.specs.Range.{entry_in_range}
-use Rattle.layout.specs.Requires.{row_word}
+use Rattle.entries.specs.SupportRange.{entry_in_range}
+use Rattle.layout.specs.SupportRequires.{row_word}
 use Rattle.layout.proofs.Squares.{row_word_lem, row_left}
 use Rattle.layout.proofs.write_squares.Goals as goal
 

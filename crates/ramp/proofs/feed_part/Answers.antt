@@ -8,7 +8,7 @@ use Rattle.laws.specs.Lists.{over}
 use Rattle.laws.proofs.Every.{every_at}
 use Rattle.laws.proofs.Over.{over_at_lem, over_more}
 use Rattle.readings.specs.Readings.{reading_in_range}
-use Rattle.entries.specs.Range.{entry_in_range}
+use Rattle.entries.specs.SupportRange.{entry_in_range}
 use Rattle.step.specs.Step.{step_by}
 use Rattle.ramp.proofs.feed_part.Goals as goal
 

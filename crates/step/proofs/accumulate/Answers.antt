@@ -12,7 +12,7 @@ use Rattle.laws.proofs.Tests.{and_true}
 use Rattle.laws.proofs.Ints.{sum, fits, signed, back, to_z_nat}
 use Rattle.settings.specs.Settings.{max_weight, weight_in_range}
 use Rattle.readings.specs.Readings.{reading_in_range}
-use Rattle.entries.specs.Range.{entry_in_range}
+use Rattle.entries.specs.SupportRange.{entry_in_range}
 use Rattle.entries.proofs.Range.{range}
 use Rattle.step.specs.Step.{pedestal_or_stored}
 use Rattle.step.proofs.Products.{product}
@@ -46,18 +46,16 @@ pub overflow_add-sum : goal.overflow_add-sum
 overflow_add-sum c =
     let a = c.args in
     let r = c.requires in
-    let h : SFits w32 a.stored.now = record { sfits = omega arith } in
     let multiplied = back w32 c.multiply-product.result c.multiply-product.type_inv ∙ rw (weight a.sample.weight r.sample_value.weight) at c.multiply-product.ensures in
-    let added = back w32 c.pedestal_or_stored-addend.result c.pedestal_or_stored-addend.type_inv ∙ rw (to_z-of_z h) at c.pedestal_or_stored-addend.ensures in
+    let added = back w32 c.pedestal_or_stored-addend.result c.pedestal_or_stored-addend.type_inv ∙ c.pedestal_or_stored-addend.ensures in
     rw (multiplied, added) (fits_sum a.sample.n a.sample.weight a.reading a.stored.now r.sample_value.number.0 r.sample_value.weight r.reading_value r.stored_value)
 
 pub returns : goal.returns
 returns c =
     let a = c.args in
     let r = c.requires in
-    let h : SFits w32 a.stored.now = record { sfits = omega arith } in
     let multiplied = back w32 c.multiply-product.result c.multiply-product.type_inv ∙ rw (weight a.sample.weight r.sample_value.weight) at c.multiply-product.ensures in
-    let added = back w32 c.pedestal_or_stored-addend.result c.pedestal_or_stored-addend.type_inv ∙ rw (to_z-of_z h) at c.pedestal_or_stored-addend.ensures in
+    let added = back w32 c.pedestal_or_stored-addend.result c.pedestal_or_stored-addend.type_inv ∙ c.pedestal_or_stored-addend.ensures in
     let s = fits_sum a.sample.n a.sample.weight a.reading a.stored.now r.sample_value.number.0 r.sample_value.weight r.reading_value r.stored_value in
     back w32 c.sum_or_mark.result c.sum_or_mark.type_inv
     ∙ simp (multiplied, added, to_z-of_z, s, number a.sample.n r.sample_value.number.1, new_mark a.sample.n r.sample_value.number.1, c.is_above.ensures) at c.sum_or_mark.ensures

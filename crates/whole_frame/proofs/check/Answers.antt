@@ -4,17 +4,18 @@ use Rattle.std.proofs.lemmas.Result.{err_from_is_err_and}
 use Rattle.operations.specs.Feed.{feed_of}
 use Rattle.board.proofs.Soundness.{sound_parts}
 use Rattle.operations.proofs.FeedChecked.{feed_taken}
+use Rattle.whole_frame.specs.Chain.{frame_answer_on}
 use Rattle.whole_frame.proofs.Whole.{then_read_out}
 use Rattle.whole_frame.proofs.check.Goals as goal
 
 pub returns-in_err-check_feed : goal.returns-in_err-check_feed
-unfolding feed_of
+unfolding frame_answer_on feed_of
 returns-in_err-check_feed c =
     let p = err_from_is_err_and c.from_residual.result c.from_residual.ensures.1 in
     rw (← c.in_err-check_feed.ensures, p.1, p.2)
 
 pub returns-in_err-refuse_when : goal.returns-in_err-refuse_when
-unfolding feed_of
+unfolding frame_answer_on feed_of
 returns-in_err-refuse_when c =
     let taken = sym c.in_ok-check_feed.ensures in
     let sides = (sound_parts _ (feed_taken _ _ _ taken).ramp.whole).sides in
@@ -23,7 +24,7 @@ returns-in_err-refuse_when c =
     rw (then_read_out _ c.requires _ _ taken, taken, ← wanted, p.1, p.2)
 
 pub returns : goal.returns
-unfolding feed_of
+unfolding frame_answer_on feed_of
 returns c =
     let taken = sym c.in_ok-check_feed.ensures in
     let sides = (sound_parts _ (feed_taken _ _ _ taken).ramp.whole).sides in

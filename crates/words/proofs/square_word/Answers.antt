@@ -15,11 +15,11 @@ overflow_add-truncation c = omega (arith, truncation_parts c.args.truncation c.r
 pub cut_off-requires : goal.cut_off-requires
 cut_off-requires c = omega (arith, truncation_parts c.args.truncation c.requires.truncation_value)
 
-pub flagged-requires-clause-pos_bound : goal.flagged-requires-clause-pos_bound
-flagged-requires-clause-pos_bound c = λ t. last_range c.min-first.result
+pub mark_or_cut-requires-clause-pos_bound : goal.mark_or_cut-requires-clause-pos_bound
+mark_or_cut-requires-clause-pos_bound c = λ t. last_range c.min-first.result
 
-pub flagged-requires-clause-word_bound : goal.flagged-requires-clause-word_bound
-flagged-requires-clause-word_bound c = rw c.cut_off.ensures (search cut_lt)
+pub mark_or_cut-requires-clause-word_bound : goal.mark_or_cut-requires-clause-word_bound
+mark_or_cut-requires-clause-word_bound c = rw c.cut_off.ensures (search cut_lt)
 
 -- what the three additions leave
 total : (p q s t : ℤ) → SFits w32 p → SFits w32 q → SFits w32 s → SFits w32 t
@@ -54,5 +54,5 @@ returns c =
     let first = smallest c.args.a c.args.b c.args.c c.args.d p q s t c.requires.a_value c.requires.c_value ip iq is it x y z
     (simp (to_z-of_z, fp, fq) at c.min.ensures.value) (simp (to_z-of_z, fs, ft) at c.min-2.ensures.value) (simp (to_z-of_z, fx, fy) at c.min-first.ensures.value) in
     let sums = added c.args.a c.args.b c.args.c c.args.d p q s t c.requires.a_value c.requires.c_value ip iq is it in
-    simp (to_z-of_z, fz, rw (total p q s t fp fq fs ft) at c.cut_off.ensures) at c.flagged.ensures
+    simp (to_z-of_z, fz, rw (total p q s t fp fq fs ft) at c.cut_off.ensures) at c.mark_or_cut.ensures
     ∙ square c.args.a c.args.b c.args.c c.args.d c.args.truncation z (int_wrap w32 (int_wrap w32 (p +ℤ q) +ℤ int_wrap w32 (s +ℤ t))) first sums

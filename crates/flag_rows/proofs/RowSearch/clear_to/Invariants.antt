@@ -1,7 +1,7 @@
 -- `flag_rows::RowSearch::clear_to`: no flag is nearer than `clear`.
 use Prim.Native.Nat.{◌-◌}
 use lib.ListN.{length}
-use Rattle.flag_rows.specs.Clear.{ClearTo}
+use Rattle.flag_rows.specs.SupportClear.{ClearTo}
 use Rattle.flag_rows.proofs.RowSearch.clear_to.Given as goal
 
 abbrev pub invariant-loop-clear : goal.invariant-loop-clear

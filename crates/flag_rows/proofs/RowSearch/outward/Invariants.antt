@@ -1,5 +1,5 @@
 -- `flag_rows::RowSearch::outward`: no flag is nearer than `away`.
-use Rattle.flag_rows.specs.Clear.{ClearTo}
+use Rattle.flag_rows.specs.SupportClear.{ClearTo}
 use Rattle.flag_rows.proofs.RowSearch.outward.Given as goal
 
 abbrev pub invariant-loop-away : goal.invariant-loop-away

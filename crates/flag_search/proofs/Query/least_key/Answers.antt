@@ -1,7 +1,7 @@
 -- `flag_search::Query::least_key` meets its contract.
 use Prim.Native.Nat.{◌+◌, ◌/◌}
 use mathlib.Core.Path.{◌≡◌, sym, ◌∙◌}
-use Rattle.flag_search.specs.Keys.{Least}
+use Rattle.flag_search.specs.SupportKeys.{Least}
 use Rattle.flag_search.proofs.Keyed.{above_some, above_none, more_rows}
 use Rattle.flag_search.proofs.Query.least_key.Goals as goal
 use Rattle.flag_search.proofs.Query.least_key.Goals.{in_default-via-in-None-1, in_default-via-in-Some+else-found-key, in-Some-checked_sub, in-None}

@@ -2,6 +2,7 @@ use Rattle.std.proofs.Common.{ℕ, ◌+◌, ◌*◌, ◌<◌, ◌≤◌, ◌^◌
 use Rattle.std.proofs.Math.Nat.{mul-le-mul, le_refl}
 use Rattle.std.proofs.Math.Pow.{pow_mono, shl_exact}
 use Rattle.std.proofs.lemmas.Bool.{lt-ltb, le-leb}
+use Rattle.word_codes.specs.Codes.{ordinary_end}
 use Rattle.settings.specs.Covered.{positives, reach, ceiling, is_covered}
 use Rattle.settings.proofs.Settings.is_covered.Goals as goal
 
@@ -12,7 +13,7 @@ reach_small {p} {n} {t} h i j =
     omega (arith, mul-le-mul most high)
 
 ceiling_high : {r : ℕ} → 49 ≤ r → 2 ^ 63 ≤ ceiling r
-ceiling_high {r} h = omega (arith, mul-le-mul (le_refl 32752) (pow_mono h))
+ceiling_high {r} h = omega (arith, mul-le-mul (le_refl ordinary_end) (pow_mono h))
 
 pub returns-then-r-ge49 : goal.returns-then-r-ge49
 unfolding is_covered
@@ -26,5 +27,5 @@ returns-then-r-ge49 c =
 pub returns-else-r-ge49 : goal.returns-else-r-ge49
 unfolding is_covered
 returns-else-r-ge49 c =
-    let small : 32752 < 2 ^ 15 = omega arith in
-    rw (c.positive_total-total.ensures.exact, c.into.ensures, c.from.ensures, shl_exact 15 c.args.self.truncation 64 small (omega arith))
+    let small : ordinary_end < 2 ^ 15 = omega arith in
+    rw (c.positive_total-total.ensures.exact, c.into.ensures, c.from.ensures, c.from-else-r-ge49.ensures, shl_exact 15 c.args.self.truncation 64 small (omega arith))

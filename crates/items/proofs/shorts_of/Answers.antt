@@ -1,9 +1,0 @@
--- Each call gives its number, and changes nothing.
-use Rattle.std.proofs.Common.{rules}
-use Rattle.items.specs.Items.{short_item}
-use Rattle.items.proofs.Calls.{answers_each}
-use Rattle.items.proofs.shorts_of.Goals as goal
-
-pub returns-clause-items : goal.returns-clause-items
-returns-clause-items c =
-    answers_each _ _ (short_item c.args.same c.args.list.now) (λ i y q k. search rules) c.from_fn.result 4096 c.from_fn.ensures.items

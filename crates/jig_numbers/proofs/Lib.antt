@@ -1,0 +1,2 @@
+-- The laws of `u16_le_all`.
+pub mod LittleEndian

@@ -1,0 +1,2 @@
+-- Numbers of two bytes each, low byte first.
+pub mod LittleEndian

@@ -1,2 +1,0 @@
--- The laws of `pairs`.
-pub mod Pairs

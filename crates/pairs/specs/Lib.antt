@@ -1,2 +1,0 @@
--- Numbers of two bytes each, low byte first.
-pub mod Pairs

@@ -1,0 +1,17 @@
+-- After some turns the sums are those of the readings before the rest.
+use Rattle.std.proofs.Common.{length, ◌+◌, ◌-◌, ◌≡◌, ◌≤◌, take, drop}
+use lib.IntN.{pos}
+use Rattle.step.specs.Step.{step}
+use Rattle.sums.specs.Feed.{feed_all}
+use Rattle.ramp.proofs.write_sums.Given as goal
+
+abbrev pub invariant-loop-rest : goal.invariant-loop-rest
+invariant-loop-rest l =
+    (l.fed ≤ l.at)
+    × (l.at + length l.rest ≡ l.fed + length l.readings)
+    × (l.rest ≡ drop (l.at - l.fed) l.readings)
+    × (length l.sums ≡ length l.initial.sums)
+    × (l.sums ≡ feed_all (pos 0) (step l.settings) (length l.initial.sums) l.fed (take (l.at - l.fed) l.readings) l.initial.sums)
+
+abbrev pub decreases-loop-rest : goal.decreases-loop-rest
+decreases-loop-rest l = length l.rest

@@ -1,0 +1,248 @@
+//! The commands of a script, each with its numbers.
+#![tactic(auto)]
+
+ghost use Rattle.std.specs.Prelude.{◌≤◌, IfOk, OkIff, pos, neg_ℤ, ◌≤ℤ◌};
+ghost use Rattle.replay_items.specs.Items.{natural_of, entry_of};
+ghost use Rattle.replay_commands.specs.Ranges.{InRange};
+ghost use Rattle.replay_commands.specs.declared.Command.TheVariants.{Board as BoardCommand};
+
+use board::Board;
+use places::Place;
+use replay_items::MOST;
+use settings::Settings;
+use sides::Sides;
+use std::num::TryFromIntError;
+
+/// `Update`, `Feed` and `Words` count their items, which stay in the list: a command is copied, and one with room for 4,096 items would be copied whole. No slices of
+/// the list: a `fill` has one reading for all, so a count stands there in any case, beside `same`. `Nearest` and `Count` have a width and a height as the script names
+/// them: a `Frame` needs the words too. That a command is in range, `InRange`, stands in the contracts of what makes one and of what plays it: a type for it would hold the
+/// command and be taken apart at once.
+#[derive(Clone, Copy, Debug, PartialEq, Eq)]
+pub enum Command {
+    Open(Sides),
+    Board(Board),
+    Update(usize),
+    Start,
+    Feed {
+        count: usize,
+        same: bool,
+    },
+    ReadOut(usize),
+    Drop,
+    Covered,
+    Word {
+        word: u16,
+        truncation: u16,
+    },
+    Sums {
+        length: usize,
+        entry: i32,
+    },
+    Poke {
+        index: usize,
+        entry: i32,
+    },
+    Swap,
+    PrintSums {
+        start: usize,
+        count: usize,
+    },
+    Words(usize),
+    Nearest {
+        width: usize,
+        height: usize,
+        place: Place,
+    },
+    Count {
+        width: usize,
+        height: usize,
+        first: Place,
+        last: Place,
+    },
+}
+
+/// A line that says no command.
+#[derive(Clone, Copy, Debug, PartialEq, Eq)]
+pub struct Malformed;
+
+impl From<TryFromIntError> for Malformed {
+    fn from(_error: TryFromIntError) -> Malformed {
+        Malformed
+    }
+}
+
+// The largest number of ten digits.
+const LARGEST: usize = 9999999999;
+
+// A number with no sign, up to the highest.
+fn up_to(n: i64, highest: usize) -> Result<usize, Malformed>
+    ensures number { OkIff result ((pos 0 ≤ℤ n) × (n ≤ℤ pos highest)) (natural_of n) }
+    ensures bound { IfOk result (λ m. m ≤ highest) }
+{
+    let m = usize::try_from(n)?;
+    if m <= highest { Ok(m) } else { Err(Malformed) }
+}
+
+// A number of 32 bits with a sign.
+fn entry(n: i64) -> Result<i32, Malformed>
+    ensures { OkIff result ((neg_ℤ (pos 2147483648) ≤ℤ n) × (n ≤ℤ pos 2147483647)) (entry_of n) }
+{
+    Ok(i32::try_from(n)?)
+}
+
+// A place of a frame, by its row and its column.
+fn place(row: i64, column: i64) -> Result<Place, Malformed> {
+    Ok(Place {
+        row: large(row)?,
+        column: large(column)?,
+    })
+}
+
+// 0 for no, 1 for yes.
+fn flag(n: i64) -> Result<bool, Malformed> {
+    Ok(up_to(n, 1)? == 1)
+}
+
+// A number with no sign that is any of ten digits.
+fn large(n: i64) -> Result<usize, Malformed>
+    ensures { IfOk result (λ m. m ≤ 9999999999) }
+{
+    up_to(n, LARGEST)
+}
+
+// The settings of nine weights, a threshold, r and N.
+fn settings(list: &[i64]) -> Result<Settings, Malformed> {
+    let [
+        one,
+        two,
+        three,
+        four,
+        five,
+        six,
+        seven,
+        eight,
+        nine,
+        threshold,
+        truncation,
+        samples,
+    ] = list
+    else {
+        return Err(Malformed);
+    };
+    Ok(Settings {
+        weights: [
+            entry(*one)?,
+            entry(*two)?,
+            entry(*three)?,
+            entry(*four)?,
+            entry(*five)?,
+            entry(*six)?,
+            entry(*seven)?,
+            entry(*eight)?,
+            entry(*nine)?,
+        ],
+        threshold: u16::try_from(*threshold)?,
+        truncation: u16::try_from(*truncation)?,
+        samples: u16::try_from(*samples)?,
+    })
+}
+
+// The board of these numbers, sound or not.
+fn board(list: &[i64]) -> Result<Board, Malformed>
+    ensures { IfOk result (λ board. InRange (BoardCommand board)) }
+{
+    let [width, height, binned, running, fed, rest @ ..] = list else {
+        return Err(Malformed);
+    };
+    let Some((waiting, in_force)) = rest.split_at_checked(12) else {
+        return Err(Malformed);
+    };
+    let width = large(*width)?;
+    let height = large(*height)?;
+    Ok(Board {
+        sides: Sides {
+            width,
+            height,
+            binned: flag(*binned)?,
+        },
+        waiting: settings(waiting)?,
+        in_force: settings(in_force)?,
+        running: flag(*running)?,
+        fed: large(*fed)?,
+    })
+}
+
+// How many items there are, if it is as many as their count says, and each is in the range of a type.
+fn counted<T: TryFrom<i64, Error = TryFromIntError> + Drop>(
+    count: i64,
+    items: &[i64],
+) -> Result<usize, Malformed>
+    ensures { IfOk result (λ m. m ≤ 4096) }
+{
+    let m = up_to(count, MOST)?;
+    if m == items.len() && items.iter().all(|n| T::try_from(*n).is_ok()) {
+        Ok(m)
+    } else {
+        Err(Malformed)
+    }
+}
+
+/// The command of a word that takes the numbers of a list.
+pub fn named(word: &[u8], list: &[i64]) -> Result<Command, Malformed>
+    ensures { IfOk result InRange }
+{
+    match (word, list) {
+        (b"open", [width, height, binned]) => Ok(Command::Open(Sides {
+            width: usize::from(u16::try_from(*width)?),
+            height: usize::from(u16::try_from(*height)?),
+            binned: flag(*binned)?,
+        })),
+        (b"board", numbers) => Ok(Command::Board(board(numbers)?)),
+        (b"update", [count, bytes @ ..]) => Ok(Command::Update(counted::<u8>(*count, bytes)?)),
+        (b"start", []) => Ok(Command::Start),
+        (b"feed", [count, readings @ ..]) => Ok(Command::Feed {
+            count: counted::<u16>(*count, readings)?,
+            same: false,
+        }),
+        (b"fill", [count, reading]) => {
+            u16::try_from(*reading)?;
+            Ok(Command::Feed {
+                count: up_to(*count, MOST)?,
+                same: true,
+            })
+        }
+        (b"readout", [count]) => Ok(Command::ReadOut(up_to(*count, MOST)?)),
+        (b"drop", []) => Ok(Command::Drop),
+        (b"covered", []) => Ok(Command::Covered),
+        (b"word", [word, truncation]) => Ok(Command::Word {
+            word: u16::try_from(*word)?,
+            truncation: u16::from(u8::try_from(*truncation)?),
+        }),
+        (b"sums", [length, value]) => Ok(Command::Sums {
+            length: up_to(*length, MOST)?,
+            entry: entry(*value)?,
+        }),
+        (b"poke", [index, value]) => Ok(Command::Poke {
+            index: up_to(*index, MOST - 1)?,
+            entry: entry(*value)?,
+        }),
+        (b"swap", []) => Ok(Command::Swap),
+        (b"print sums", [start, count]) => Ok(Command::PrintSums {
+            start: up_to(*start, MOST)?,
+            count: up_to(*count, MOST)?,
+        }),
+        (b"words", [count, words @ ..]) => Ok(Command::Words(counted::<u16>(*count, words)?)),
+        (b"nearest", [width, height, row, column]) => Ok(Command::Nearest {
+            width: large(*width)?,
+            height: large(*height)?,
+            place: place(*row, *column)?,
+        }),
+        (b"count", [width, height, row, column, last_row, last_column]) => Ok(Command::Count {
+            width: large(*width)?,
+            height: large(*height)?,
+            first: place(*row, *column)?,
+            last: place(*last_row, *last_column)?,
+        }),
+        _ => Err(Malformed),
+    }
+}

@@ -1,0 +1,2 @@
+-- The known codes of a word.
+pub mod Known

@@ -1,0 +1,3 @@
+-- The codes of a word.
+pub mod Codes
+pub mod Known
