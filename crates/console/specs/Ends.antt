@@ -13,10 +13,10 @@ asked (Err NotPresent) _ = Ok false
 asked (Err TooLong) _ = Err Argument
 
 -- what standard error says of a failure, after the program's name
-abbrev pub text_of : Failure → List ℕ
-text_of Argument = codes "the only argument is --help"
-text_of Input = codes "standard input can't be read"
-text_of Output = codes "standard output can't be written"
+abbrev pub failure_text : Failure → List ℕ
+failure_text Argument = codes "the only argument is --help"
+failure_text Input = codes "standard input can't be read"
+failure_text Output = codes "standard output can't be written"
 
 -- the exit status for a failure
 abbrev pub failure_status : Failure → ℕ

@@ -5,7 +5,7 @@ ghost use Rattle.std.specs.Prelude.{◌≡◌, ◌<◌, length, take, Some, IfOk
 ghost use Rattle.std.specs.Io.KnownBytes.{Consumes, IsAtEnd};
 ghost use Rattle.std.specs.Io.{ReadsAtMost};
 ghost use Rattle.std.specs.Process.{exit_status};
-ghost use Rattle.console.specs.Ends.{asked, failure_status, status_of, text_of};
+ghost use Rattle.console.specs.Ends.{asked, failure_status, failure_text, status_of};
 ghost use Rattle.console.specs.declared.Failure.TheVariants.{Input, Output};
 
 use std::env::FillError;
@@ -34,7 +34,7 @@ impl Failure {
 }
 
 impl fmt::Display for Failure {
-    ghost output = { λ failure. Some (text_of failure) };
+    ghost output = { λ failure. Some (failure_text failure) };
 
     fn fmt<W: fmt::Write>(&self, f: &mut fmt::Formatter<W>) -> fmt::Result {
         f.write_str(match *self {

@@ -31,18 +31,18 @@ use Rattle.board.specs.Open.{open_of}
 use Rattle.operations.proofs.Says.{says}
 use Rattle.history.specs.Calls.{Call, update, start, feed, read_out, drop, Ledger, view_of, ledger_answer, effect, Allowed, any_sums, after_taken, State, after, opening}
 use Rattle.history.specs.Readings.{ramp_of, ramp_area, words}
-use Rattle.history.specs.Demands.{Every, AtSome, ReadsOut, fed_by, passable, CanReadOut, FullRamp, AnyRampFollows, WaitingStays}
+use Rattle.history.specs.Demands.{Every, AtSome, ReadsOut, fed_by, passable, CanReadOut, FullRamp, AnyRampFollows, NoRecord}
 use Rattle.history.proofs.Ledgers.{shown_by, opened_is, board_is}
 use Rattle.history.proofs.Invariant.{Good, parts, opened_good, taken_good}
 use Rattle.history.proofs.Ramps.{in_bits, RunningRamp, blank, feed_goes, fed_ramp, read_goes}
 
--- from where a ledger shows the board: such calls, all of which leave the waiting settings as they are
+-- from where a ledger shows the board: such calls, which bring no record and leave the waiting settings as they are
 record Goes (s : Settings) (ℓ : Ledger) (allowed : Allowed) (xs : List ℕ) (cut : List (List ℕ)) : Type 0 where
   pub calls : List Call
   pub can_be_made : every passable calls ≡ true
   pub feeds : fed_by calls ≡ cut
   pub reads_out : AtSome (ReadsOut s xs) (shown_by ℓ allowed) calls
-  pub waiting : Every WaitingStays (shown_by ℓ allowed) calls
+  pub no_record : Every NoRecord (shown_by ℓ allowed) calls
 
 -- what a taken call and the calls after it find
 onward : (F : (State → Call → Type 0) → State → List Call → Type 0) (P : State → Call → Type 0) (ℓ : Ledger) (allowed : Allowed) (c : Call) (calls : List Call)
@@ -77,7 +77,7 @@ module _ (s : Settings) (xs : List ℕ) where
           coverage = says (view_of ℓ) ramp.good.whole ∙ rw is;
           readings = e;
         });
-        waiting = (rw goes, tt);
+        no_record = ((refl, rw goes), tt);
       }
   reads (ys ∷ cut) {ℓ} {allowed} {sums} ramp is all full ok =
       let o = and_true (every reading_in_range ys) (every reading_in_range (joined cut)) (sym (every_append reading_in_range ys (joined cut)) ∙ ok) in
@@ -89,7 +89,7 @@ module _ (s : Settings) (xs : List ℕ) where
         can_be_made = rw (ramp.bits, readings_pass ys o.0) rest.can_be_made;
         feeds = ap (λ (l : List (List ℕ)). ys ∷ l) rest.feeds;
         reads_out = inr (onward AtSome (ReadsOut s xs) ℓ allowed (feed ys sums) rest.calls goes rest.reads_out);
-        waiting = (rw goes, onward Every WaitingStays ℓ allowed (feed ys sums) rest.calls goes rest.waiting);
+        no_record = ((refl, rw goes), onward Every NoRecord ℓ allowed (feed ys sums) rest.calls goes rest.no_record);
       }
 
 module _ {ℓ : Ledger} {allowed : Allowed} (good : Good ℓ allowed) (idle : ℓ.running ≡ false) where
@@ -116,7 +116,7 @@ module _ {ℓ : Ledger} {allowed : Allowed} (good : Good ℓ allowed) (idle : �
         can_be_made = rest.can_be_made;
         feeds = rest.feeds;
         reads_out = inr (onward AtSome (ReadsOut s (joined cut)) ℓ allowed start rest.calls start_goes rest.reads_out);
-        waiting = (rw start_goes, onward Every WaitingStays ℓ allowed start rest.calls start_goes rest.waiting);
+        no_record = ((refl, rw start_goes), onward Every NoRecord ℓ allowed start rest.calls start_goes rest.no_record);
       }
 
 -- an Update first, and so under any settings
@@ -155,7 +155,7 @@ any_ramp_follows ℓ allowed good c s range cut full =
 
 -- from Open on, with the settings left as they are
 pub reached_unchanged : (w h : ℕ) (binned : Bool) → (open_of w h binned).answer ≡ Ok tt → (cut : List (List ℕ)) → FullRamp (opening w h binned) defaults (joined cut)
-    → (list : CanReadOut (opening w h binned) defaults cut) × Every WaitingStays (opening w h binned) list.calls
+    → (list : CanReadOut (opening w h binned) defaults cut) × Every NoRecord (opening w h binned) list.calls
 reached_unchanged w h binned taken cut full =
     let list = starts (opened_good w h binned taken) refl defaults refl cut full in (
       record {
@@ -164,5 +164,5 @@ reached_unchanged w h binned taken cut full =
         feeds = list.feeds;
         reads_out = rw (opened_is w h binned taken) list.reads_out;
       },
-      rw (opened_is w h binned taken) list.waiting,
+      rw (opened_is w h binned taken) list.no_record,
     )

@@ -182,6 +182,10 @@ AnyRampFollows at c = (s : Settings) → in_range s ≡ true → (cut : List (Li
 abbrev pub WaitingStays : State → Call → Type 0
 WaitingStays at c = (after at c).ledger.waiting ≡ at.ledger.waiting
 
+-- at one call: it brings no record, and they stay
+abbrev pub NoRecord : State → Call → Type 0
+NoRecord at c = ((brought c).bytes ≡ None) × WaitingStays at c
+
 pub record DefaultsCovered : Type 1 where
   -- Covered says "covered" of every board that Open gives
   pub opened : (w h : ℕ) (binned : Bool) → (open_of w h binned).answer ≡ Ok tt → SaidCovered (opening w h binned)
@@ -189,10 +193,10 @@ pub record DefaultsCovered : Type 1 where
   pub frames : (w h : ℕ) (binned : Bool) → (open_of w h binned).answer ≡ Ok tt → (calls : List Call)
       → Every WaitingStays (opening w h binned) calls
       → Every (λ at c. SaidCovered at × NoFalseWord at c) (opening w h binned) calls
-  -- such a list can read out any N × M readings in range, in any cut into Feeds
+  -- such a list, with no record in it, can read out any N × M readings in range, in any cut into Feeds
   pub reached : (w h : ℕ) (binned : Bool) → (open_of w h binned).answer ≡ Ok tt
       → (cut : List (List ℕ)) → FullRamp (opening w h binned) defaults (joined cut)
-      → (list : CanReadOut (opening w h binned) defaults cut) × Every WaitingStays (opening w h binned) list.calls
+      → (list : CanReadOut (opening w h binned) defaults cut) × Every NoRecord (opening w h binned) list.calls
 
 -- ---- all demands
 
