@@ -1,26 +1,27 @@
-//! The three programs must agree on every sum, word and refusal before anything is timed.
+//! The four programs must agree on every sum, word and refusal before anything is timed.
 
-use crate::data::{self, Draws, KINDS, SAMPLES};
-use crate::job::{Answer, Board, Program};
+use crate::data::{self, Draws, KINDS};
+use crate::job::{Answer, Board, Job, Program, Sides};
+use crate::settings::Settings;
 
 /// What a call leaves: the answer and the buffers.
 type Left = (Answer, Vec<i32>, Vec<u16>);
 
-fn frame(program: &Program, b: &Board, readings: &[u16], sums: &[i32], words: usize) -> Left {
+fn frame(program: &Program, job: &Job, readings: &[u16], sums: &[i32], words: usize) -> Left {
     let (mut sums, mut words) = (sums.to_vec(), vec![7; words]);
-    let answer = (program.frame)(b, readings, &mut sums, &mut words);
+    let answer = (program.frame)(job, readings, &mut sums, &mut words);
     (answer, sums, words)
 }
 
-fn feed(program: &Program, b: &Board, fed: usize, readings: &[u16], sums: &[i32]) -> Left {
+fn feed(board: &mut dyn Board, readings: &[u16], sums: &[i32]) -> Left {
     let mut sums = sums.to_vec();
-    let answer = (program.feed)(b, fed, readings, &mut sums);
+    let answer = board.feed(readings, &mut sums);
     (answer, sums, vec![])
 }
 
-fn read_out(program: &Program, b: &Board, sums: &[i32], words: usize) -> Left {
+fn read_out(board: &mut dyn Board, sums: &[i32], words: usize) -> Left {
     let mut words = vec![7; words];
-    let answer = (program.read_out)(b, sums, &mut words);
+    let answer = board.read_out(sums, &mut words);
     (answer, vec![], words)
 }
 
@@ -39,11 +40,11 @@ impl Agreement {
         }
     }
 
-    /// The same call on each program; what the first left.
-    fn same(&mut self, what: &str, call: impl Fn(&Program) -> Left) -> Left {
-        let left = call(&self.programs[0]);
-        for program in &self.programs[1..] {
-            let other = call(program);
+    /// What the same call left of each program, in their order: all must have left what the first did.
+    fn same(&mut self, what: &str, lefts: impl Iterator<Item = Left>) -> Left {
+        let mut lefts = self.programs.iter().zip(lefts);
+        let (_, left) = lefts.next().unwrap();
+        for (program, other) in lefts {
             assert!(
                 other.0 == left.0,
                 "{what}: {} answers {:?}, ours {:?}",
@@ -64,105 +65,249 @@ impl Agreement {
         left
     }
 
-    /// A good ramp: at once, in parts of so many readings, and read out.
-    pub fn ramp(&mut self, b: &Board, readings: &[u16], parts: &[usize]) {
-        let garbage = vec![i32::MIN; b.pixels()];
-        let whole = self.same("a frame", |p| frame(p, b, readings, &garbage, b.words()));
+    /// A whole job in one call.
+    fn frame(&mut self, job: &Job, readings: &[u16], sums: &[i32], words: usize) -> Left {
+        let programs = self.programs;
+        let lefts = programs
+            .iter()
+            .map(|p| frame(p, job, readings, sums, words));
+        self.same("a frame", lefts)
+    }
+
+    /// A good job: in one call, and on a board that takes its ramp again and again, each time in parts of so many readings, and reads it out.
+    pub fn ramp(&mut self, job: &Job, readings: &[u16], parts: &[usize]) {
+        let garbage = vec![i32::MIN; job.sides.pixels()];
+        let whole = self.frame(job, readings, &garbage, job.sides.words());
         assert!(whole.0.is_ok());
-        for &part in parts {
-            for program in &self.programs {
-                let mut sums = garbage.clone();
-                for (i, some) in readings.chunks(part).enumerate() {
-                    let answer = (program.feed)(b, i * part, some, &mut sums);
+        for program in self.programs {
+            let mut board = program.begin(job);
+            for &part in parts {
+                let (mut sums, mut words) = (garbage.clone(), vec![7; job.sides.words()]);
+                for some in readings.chunks(part) {
+                    let answer = board.feed(some, &mut sums);
                     assert!(answer.is_ok(), "{} refuses a part", program.name);
                     self.calls += 1;
                 }
+                let answer = board.read_out(&sums, &mut words);
+                self.calls += 1;
                 assert!(
-                    sums == whole.1,
-                    "{}: parts of {part} leave other sums",
+                    (answer, sums, words) == whole,
+                    "{}: parts of {part} leave another frame",
                     program.name
                 );
+                board.start().unwrap();
             }
-            let left = self.same("a Read out", |p| read_out(p, b, &whole.1, b.words()));
-            assert!(left.0.is_ok() && left.2 == whole.2);
         }
     }
 
-    /// Jobs that go wrong in one or two places, drawn at random: small boards, any record, damaged readings, sums and lengths.
-    pub fn damaged(&mut self, draws: &mut Draws) {
-        let mut b = Board {
-            width: 1 + draws.below(70) as usize,
-            height: 1 + draws.below(6) as usize,
-            binned: draws.below(2) == 1,
-            record: record(draws),
-        };
-        if draws.below(8) > 0 && b.binned {
-            b.width += b.width % 2;
-            b.height += b.height % 2;
-        }
-        if draws.below(20) == 0 {
-            b.width = [0, 1025][draws.below(2) as usize];
-        }
-        let m = b.pixels();
-        let n = 1 + draws.below(9) as usize;
-        let kind = KINDS[draws.below(3) as usize];
-        let mut readings = data::readings(kind, m, u64::from(draws.below(1_000_000)));
-        let odd = |draws: &mut Draws, n: usize| {
-            (n + [0, 0, 0, 1, 2][draws.below(5) as usize]).saturating_sub(1)
-        };
-        let whole = if draws.below(2) == 0 {
-            SAMPLES * m
-        } else {
-            n * m
-        };
-        readings.truncate(if draws.below(4) == 0 {
-            odd(draws, whole)
-        } else {
-            whole
-        });
-        if draws.below(6) == 0 && !readings.is_empty() {
-            for _ in 0..2 {
-                let at = draws.below(readings.len() as u32) as usize;
-                readings[at] = 16_383 + draws.below(40_000) as u16;
-            }
-        }
-        let mut sums = vec![
-            77;
-            if draws.below(10) == 0 {
-                odd(draws, m)
-            } else {
-                m
-            }
-        ];
-        let words = if draws.below(10) == 0 {
-            odd(draws, b.words())
-        } else {
-            b.words()
-        };
-        let _ = self.same("a damaged frame", |p| frame(p, &b, &readings, &sums, words));
+    /// A list of calls on a small board, drawn at random, in most of which something is wrong in one or two places: the record, the readings, the sums, a
+    /// length, or the call is out of turn.
+    pub fn list(&mut self, draws: &mut Draws) {
+        let job = small_job(draws);
+        let readings = data::readings(
+            kind(draws),
+            job.sides.pixels(),
+            u64::from(draws.below(1_000_000)),
+        );
+        let samples = samples_of(&job.record);
+        let some = damaged(draws, &readings[..samples * job.sides.pixels()]);
+        let sums = vec![77; mostly(draws, job.sides.pixels())];
+        let words = mostly(draws, job.sides.words());
+        let _ = self.frame(&job, &some, &sums, words);
 
-        // Fed up to some place, then damaged, then fed on.
-        let cut = draws.below(1 + readings.len() as u32) as usize;
-        sums = self
-            .same("a first part", |p| feed(p, &b, 0, &readings[..cut], &sums))
-            .1;
-        if draws.below(2) == 0 && !sums.is_empty() {
-            for _ in 0..2 {
-                let at = draws.below(sums.len() as u32) as usize;
-                sums[at] = damage(draws);
+        let opened = self.programs.map(|p| (p.open)(job.sides));
+        let answers = opened.each_ref().map(|opened| match opened {
+            Ok(_) => (Ok(()), vec![], vec![]),
+            Err(refusal) => (Err(*refusal), vec![], vec![]),
+        });
+        let _ = self.same("Open", answers.into_iter());
+        let Ok(boards) = opened.into_iter().collect() else {
+            return;
+        };
+        let mut list = List {
+            sums: vec![77; job.sides.pixels()],
+            job,
+            agreement: self,
+            boards,
+            readings,
+            waiting: Settings::DEFAULTS,
+            samples: 0,
+            fed: 0,
+        };
+        for _ in 0..1 + draws.below(3) {
+            list.ramp(draws);
+        }
+    }
+}
+
+/// A list of calls on a board of each program.
+struct List<'a> {
+    agreement: &'a mut Agreement,
+    job: Job,
+    boards: Vec<Box<dyn Board>>,
+    /// The readings of nine samples.
+    readings: Vec<u16>,
+    /// The sums as the last taken Feed left them.
+    sums: Vec<i32>,
+    waiting: Settings,
+    /// How many samples the ramp that runs has; 0 if none does.
+    samples: usize,
+    fed: usize,
+}
+
+impl List<'_> {
+    fn same(&mut self, what: &str, call: impl Fn(&mut dyn Board) -> Left) -> Left {
+        let lefts = self.boards.iter_mut().map(|board| call(&mut **board));
+        self.agreement.same(what, lefts)
+    }
+
+    /// A call that is lent no buffer.
+    fn plain(&mut self, what: &str, call: impl Fn(&mut dyn Board) -> Answer) -> Answer {
+        self.same(what, |board| (call(board), vec![], vec![])).0
+    }
+
+    fn update(&mut self, record: &[u8]) {
+        if self.plain("Update", |board| board.update(record)).is_ok() {
+            self.waiting = self.waiting.updated(record).unwrap();
+        }
+    }
+
+    fn start(&mut self) {
+        if self.plain("Start", |board| board.start()).is_ok() {
+            (self.samples, self.fed) = (self.waiting.samples, 0);
+        }
+    }
+
+    fn drop_ramp(&mut self) {
+        if self.plain("Drop", |board| board.drop_ramp()).is_ok() {
+            (self.samples, self.fed) = (0, 0);
+        }
+    }
+
+    fn left(&self) -> usize {
+        self.samples * self.job.sides.pixels() - self.fed
+    }
+
+    fn feed(&mut self, draws: &mut Draws, count: usize) {
+        let end = self.readings.len().min(self.fed + count);
+        let readings = damaged(draws, &self.readings[self.fed..end]);
+        let mut sums = self.sums.clone();
+        sums.resize(mostly(draws, sums.len()), 77);
+        let left = self.same("Feed", |board| feed(board, &readings, &sums));
+        if left.0.is_ok() {
+            self.sums = left.1;
+            self.fed += readings.len();
+        }
+    }
+
+    fn read_out(&mut self, draws: &mut Draws) {
+        let mut sums = self.sums.clone();
+        sums.resize(mostly(draws, sums.len()), 77);
+        let words = mostly(draws, self.job.sides.words());
+        let left = self.same("Read out", |board| read_out(board, &sums, words));
+        if left.0.is_ok() {
+            (self.samples, self.fed) = (0, 0);
+        }
+    }
+
+    /// Two entries become others, which are near a limit of what is possible.
+    fn damage(&mut self, draws: &mut Draws) {
+        for _ in 0..2 {
+            let at = draws.below(self.sums.len() as u32) as usize;
+            self.sums[at] = entry_near_a_limit(draws);
+        }
+    }
+
+    /// A call that may be out of turn.
+    fn any_call(&mut self, draws: &mut Draws) {
+        match draws.below(5) {
+            0 => self.update(&record(draws)),
+            1 => self.start(),
+            2 => self.feed(draws, 3),
+            3 => self.read_out(draws),
+            _ => self.drop_ramp(),
+        }
+    }
+
+    /// A ramp in some parts, mostly to its end, and mostly read out.
+    fn ramp(&mut self, draws: &mut Draws) {
+        if draws.below(3) > 0 {
+            let record = self.job.record.clone();
+            self.update(&record);
+        }
+        self.start();
+        for _ in 0..draws.below(4) {
+            match draws.below(8) {
+                0 => self.any_call(draws),
+                1 => self.damage(draws),
+                _ => {
+                    let count = draws.below(1 + self.left() as u32) as usize;
+                    self.feed(draws, count);
+                }
             }
         }
-        let fed = if draws.below(8) == 0 {
-            draws.below(10 * m as u32 + 10) as usize
-        } else {
-            cut
-        };
-        let end = cut + draws.below(1 + (readings.len() - cut) as u32) as usize;
-        let _ = self.same("a second part", |p| {
-            feed(p, &b, fed, &readings[cut..end], &sums)
-        });
-        let _ = self.same("a damaged Read out", |p| read_out(p, &b, &sums, words));
+        if draws.below(5) > 0 {
+            let rest = mostly(draws, self.left());
+            self.feed(draws, rest);
+        }
+        if draws.below(8) == 0 {
+            self.damage(draws);
+        }
+        self.read_out(draws);
+        if self.samples > 0 && draws.below(4) > 0 {
+            self.read_out(draws);
+            self.drop_ramp();
+        }
     }
+}
+
+fn kind(draws: &mut Draws) -> data::Kind {
+    KINDS[draws.below(3) as usize]
+}
+
+/// A length, or one beside it.
+fn mostly(draws: &mut Draws, length: usize) -> usize {
+    match draws.below(24) {
+        0 => length + 1,
+        1 => length.saturating_sub(1),
+        _ => length,
+    }
+}
+
+/// Readings, in some draws two of them others, mostly too large.
+fn damaged(draws: &mut Draws, readings: &[u16]) -> Vec<u16> {
+    let mut readings = readings.to_vec();
+    if draws.below(12) == 0 && !readings.is_empty() {
+        for _ in 0..2 {
+            let at = draws.below(readings.len() as u32) as usize;
+            readings[at] = 16_383 + draws.below(40_000) as u16;
+        }
+    }
+    readings
+}
+
+/// A small board, whose sides are mostly good, and any record.
+fn small_job(draws: &mut Draws) -> Job {
+    let mut sides = Sides {
+        width: 1 + draws.below(70) as usize,
+        height: 1 + draws.below(6) as usize,
+        binned: draws.below(2) == 1,
+    };
+    let record = record(draws);
+    if draws.below(8) > 0 && sides.binned {
+        sides.width += sides.width % 2;
+        sides.height += sides.height % 2;
+    }
+    if draws.below(20) == 0 {
+        sides.width = [0, 1025][draws.below(2) as usize];
+    }
+    Job { sides, record }
+}
+
+/// How many samples a job of this record has.
+fn samples_of(record: &[u8]) -> usize {
+    let settings = Settings::DEFAULTS.updated(record);
+    settings.unwrap_or(Settings::DEFAULTS).samples
 }
 
 /// A record that is mostly good.
@@ -202,7 +347,7 @@ fn record(draws: &mut Draws) -> Vec<u8> {
 }
 
 /// An entry near a limit of what is possible after some samples.
-fn damage(draws: &mut Draws) -> i32 {
+fn entry_near_a_limit(draws: &mut Draws) -> i32 {
     let k = draws.below(10) as i32;
     let beside = draws.below(3) as i32 - 1;
     match draws.below(4) {

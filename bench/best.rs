@@ -1,24 +1,31 @@
-//! The fastest program in safe Rust that was found by hand under the rules of ours: the same checks and answers, each reading is multiplied and
+//! Safe Rust that is made by hand to be as fast as it can be under the rules of ours: the same checks and answers, each reading is multiplied and
 //! added to its entry, and there is no buffer but the caller's. Every pass compiles to vector code with the machine's 16-bit multiplies.
 
-use crate::job::{refuse, Answer, Board, Program, Refusal};
-use crate::settings::{begin, Settings, MARK, MAX_PRODUCT, MAX_READING};
+use crate::board::{open, Kept, Way};
+use crate::job::{refuse, Answer, Job, Program, Refusal};
+use crate::settings::{Settings, MARK, MAX_PRODUCT, MAX_READING};
 
 pub const PROGRAM: Program = Program {
     name: "best",
-    feed,
-    read_out,
+    open: open::<Best>,
     frame,
 };
 
-fn all_in_range(readings: &[u16]) -> bool {
-    let quarter = readings.len() / 4;
-    let (a, rest) = readings.split_at(quarter);
+/// Four parts of one length, and the rest. A loop over all four at once has more reads from memory under way than one over them all in a row.
+#[inline(always)]
+fn quarters<T>(items: &[T]) -> ([&[T]; 4], &[T]) {
+    let quarter = items.len() / 4;
+    let (a, rest) = items.split_at(quarter);
     let (b, rest) = rest.split_at(quarter);
     let (c, rest) = rest.split_at(quarter);
     let (d, rest) = rest.split_at(quarter);
+    ([a, b, c, d], rest)
+}
+
+fn all_in_range(readings: &[u16]) -> bool {
+    let ([a, b, c, d], rest) = quarters(readings);
     let mut bits = 0;
-    for i in 0..quarter {
+    for i in 0..a.len() {
         bits |= a[i] | b[i] | c[i] | d[i];
     }
     rest.iter().fold(bits, |bits, x| bits | x) <= MAX_READING
@@ -42,19 +49,14 @@ fn each_possible(sums: &[i32], k: usize) -> bool {
     !sums.iter().fold(false, |bad, &entry| bad | outside(entry))
 }
 
-/// Whether each entry is surely possible: within a power of two of 0, or a mark. The bits of all together tell. Four quarters go at once, which keeps
-/// the memory busy.
+/// Whether each entry is surely possible: within a power of two of 0, or a mark. The bits of all together tell.
 fn all_near(sums: &[i32], k: usize) -> bool {
     let near = if k < 5 { 131_072 } else { 1_048_576 };
     let gap = MARK + (k as i32 + 1) - near;
     let moved = |entry: i32| near + if entry > MARK { entry - gap } else { entry };
-    let quarter = sums.len() / 4;
-    let (a, rest) = sums.split_at(quarter);
-    let (b, rest) = rest.split_at(quarter);
-    let (c, rest) = rest.split_at(quarter);
-    let (d, rest) = rest.split_at(quarter);
+    let ([a, b, c, d], rest) = quarters(sums);
     let mut bits = 0;
-    for i in 0..quarter {
+    for i in 0..a.len() {
         bits |= moved(a[i]) | moved(b[i]) | moved(c[i]) | moved(d[i]);
     }
     let bits = rest.iter().fold(bits, |bits, &entry| bits | moved(entry));
@@ -63,6 +65,9 @@ fn all_near(sums: &[i32], k: usize) -> bool {
 
 /// 14 for the entries from a place on, which have had k samples.
 fn check_entries(sums: &[i32], from: usize, to: usize, k: usize) -> Answer {
+    if from == to {
+        return Ok(());
+    }
     let part = &sums[from..to];
     if all_near(part, k) || each_possible(part, k) {
         return Ok(());
@@ -71,23 +76,23 @@ fn check_entries(sums: &[i32], from: usize, to: usize, k: usize) -> Answer {
     refuse(14, from + at.unwrap())
 }
 
-pub fn check_feed(b: &Board, s: &Settings, fed: usize, readings: &[u16], sums: &[i32]) -> Answer {
-    let m = b.pixels();
-    if fed > s.samples * m {
-        return refuse(99, 0);
-    }
-    if sums.len() != m {
-        return refuse(11, 0);
-    }
-    let count = readings.len();
-    if count > s.samples * m - fed {
+/// How many whole samples were fed, and how many readings of the next one. Both numbers fit in 32 bits, and so the division is a short one.
+fn whole_samples(fed: usize, pixels: usize) -> (usize, usize) {
+    let (fed, pixels) = (fed as u32, pixels as u32);
+    ((fed / pixels) as usize, (fed % pixels) as usize)
+}
+
+/// 12, 13 and 14 of Feed.
+pub fn check_feed(board: &Kept, readings: &[u16], sums: &[i32]) -> Answer {
+    let (m, fed, count) = (board.sides().pixels(), board.fed(), readings.len());
+    if count > board.wanted() - fed {
         return refuse(12, 0);
     }
     if !all_in_range(readings) {
         let at = readings.iter().position(|&x| x > MAX_READING);
         return refuse(13, at.unwrap());
     }
-    let (c, q) = (fed / m, fed % m);
+    let (c, q) = whole_samples(fed, m);
     check_entries(sums, 0, q.min((q + count).saturating_sub(m)), c + 1)?;
     if c > 0 {
         check_entries(sums, q, m.min(q + count), c)?;
@@ -116,14 +121,14 @@ pub fn sum_part(readings: &[u16], sums: &mut [i32], n: usize, weight: i32, thres
 
 pub fn sum_up(s: &Settings, fed: usize, readings: &[u16], sums: &mut [i32]) {
     let m = sums.len();
-    let (mut n, mut p) = (fed / m + 1, fed % m);
+    let (mut c, mut p) = whole_samples(fed, m);
     let mut left = readings;
     while !left.is_empty() {
         let k = left.len().min(m - p);
         let (part, rest) = left.split_at(k);
-        sum_part(part, &mut sums[p..p + k], n, s.weights[n - 1], s.threshold);
+        sum_part(part, &mut sums[p..p + k], c + 1, s.weights[c], s.threshold);
         left = rest;
-        n += 1;
+        c += 1;
         p = 0;
     }
 }
@@ -162,61 +167,55 @@ fn square_words(upper: &[i32], lower: &[i32], words: &mut [u16], r: u32) {
     }
 }
 
-pub fn write_words(b: &Board, s: &Settings, sums: &[i32], words: &mut [u16]) {
-    if b.binned {
+pub fn write_words(board: &Kept, sums: &[i32], words: &mut [u16]) {
+    let (width, r) = (board.sides().width, board.settings().truncation);
+    if board.sides().binned {
         for (rows, row) in sums
-            .chunks_exact(2 * b.width)
-            .zip(words.chunks_exact_mut(b.width / 2))
+            .chunks_exact(2 * width)
+            .zip(words.chunks_exact_mut(width / 2))
         {
-            let (upper, lower) = rows.split_at(b.width);
-            square_words(upper, lower, row, s.truncation);
+            let (upper, lower) = rows.split_at(width);
+            square_words(upper, lower, row, r);
         }
     } else {
-        pixel_words(sums, words, s.truncation);
+        pixel_words(sums, words, r);
     }
 }
 
-fn feed(b: &Board, fed: usize, readings: &[u16], sums: &mut [i32]) -> Answer {
-    let s = begin(b)?;
-    check_feed(b, &s, fed, readings, sums)?;
-    sum_up(&s, fed, readings, sums);
-    Ok(())
+pub struct Best;
+
+impl Way for Best {
+    fn feed(board: &Kept, readings: &[u16], sums: &mut [i32]) -> Answer {
+        check_feed(board, readings, sums)?;
+        sum_up(board.settings(), board.fed(), readings, sums);
+        Ok(())
+    }
+
+    fn read_out(board: &Kept, sums: &[i32], words: &mut [u16]) -> Answer {
+        board.check_output(board.fed(), words)?;
+        check_entries(sums, 0, sums.len(), board.settings().samples)?;
+        write_words(board, sums, words);
+        Ok(())
+    }
 }
 
-fn read_out(b: &Board, sums: &[i32], words: &mut [u16]) -> Answer {
-    let s = begin(b)?;
-    if sums.len() != b.pixels() {
-        return refuse(11, 0);
-    }
-    if words.len() != b.words() {
-        return refuse(16, 0);
-    }
-    check_entries(sums, 0, sums.len(), s.samples)?;
-    write_words(b, &s, sums, words);
-    Ok(())
-}
-
-/// The checks of a whole job, each made once.
+/// The board of a whole job whose checks refuse nothing, each made once.
 pub fn check_frame(
-    b: &Board,
+    job: &Job,
     readings: &[u16],
     sums: &[i32],
     words: &[u16],
-) -> Result<Settings, Refusal> {
-    let s = begin(b)?;
-    check_feed(b, &s, 0, readings, sums)?;
-    if readings.len() < s.samples * b.pixels() {
-        refuse(15, 0)?;
-    }
-    if words.len() != b.words() {
-        refuse(16, 0)?;
-    }
-    Ok(s)
+) -> Result<Kept, Refusal> {
+    let board = Kept::begin(job)?;
+    board.check_ramp(sums)?;
+    check_feed(&board, readings, sums)?;
+    board.check_output(readings.len(), words)?;
+    Ok(board)
 }
 
-fn frame(b: &Board, readings: &[u16], sums: &mut [i32], words: &mut [u16]) -> Answer {
-    let s = check_frame(b, readings, sums, words)?;
-    sum_up(&s, 0, readings, sums);
-    write_words(b, &s, sums, words);
+fn frame(job: &Job, readings: &[u16], sums: &mut [i32], words: &mut [u16]) -> Answer {
+    let board = check_frame(job, readings, sums, words)?;
+    sum_up(board.settings(), 0, readings, sums);
+    write_words(&board, sums, words);
     Ok(())
 }

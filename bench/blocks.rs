@@ -1,14 +1,14 @@
 //! Another algorithm, which breaks two rules of ours: it sums a ramp that comes whole in blocks of pixels, all samples of a block at once, each reading
 //! cut into two halves, in buffers of its own. Its checks and its words are those of the best program.
 
-use crate::best::{self, check_feed, check_frame, sum_part, write_words};
-use crate::job::{Answer, Board, Program};
-use crate::settings::{begin, Settings, MARK};
+use crate::best::{check_feed, check_frame, sum_part, sum_up, write_words, Best};
+use crate::board::{open, Kept, Way};
+use crate::job::{Answer, Job, Program};
+use crate::settings::{Settings, MARK};
 
 pub const PROGRAM: Program = Program {
     name: "blocks",
-    feed,
-    read_out: best::PROGRAM.read_out,
+    open: open::<Blocks>,
     frame,
 };
 
@@ -61,30 +61,37 @@ fn sum_whole(s: &Settings, readings: &[u16], m: usize, p: usize, sums: &mut [i32
     by_samples[s.samples - 1](s, readings, m, p, sums);
 }
 
-fn feed(b: &Board, fed: usize, readings: &[u16], sums: &mut [i32]) -> Answer {
-    let s = begin(b)?;
-    check_feed(b, &s, fed, readings, sums)?;
-    if readings.len() == s.samples * sums.len() {
-        sum_whole(&s, readings, sums.len(), 0, sums);
-    } else {
-        best::sum_up(&s, fed, readings, sums);
+struct Blocks;
+
+impl Way for Blocks {
+    fn feed(board: &Kept, readings: &[u16], sums: &mut [i32]) -> Answer {
+        check_feed(board, readings, sums)?;
+        if readings.len() == board.wanted() {
+            sum_whole(board.settings(), readings, sums.len(), 0, sums);
+        } else {
+            sum_up(board.settings(), board.fed(), readings, sums);
+        }
+        Ok(())
     }
-    Ok(())
+
+    fn read_out(board: &Kept, sums: &[i32], words: &mut [u16]) -> Answer {
+        Best::read_out(board, sums, words)
+    }
 }
 
-fn frame(b: &Board, readings: &[u16], sums: &mut [i32], words: &mut [u16]) -> Answer {
-    let s = check_frame(b, readings, sums, words)?;
-    let m = b.pixels();
-    // Two rows at a time, and their words while the sums are close.
-    let band = 2 * b.width;
-    let per_band = if b.binned { b.width / 2 } else { band };
+fn frame(job: &Job, readings: &[u16], sums: &mut [i32], words: &mut [u16]) -> Answer {
+    let board = check_frame(job, readings, sums, words)?;
+    let (sides, m) = (board.sides(), board.sides().pixels());
+    // Two rows at a time, and their words while the sums are in the cache.
+    let band = 2 * sides.width;
+    let per_band = if sides.binned { sides.width / 2 } else { band };
     for (i, (part, row)) in sums
         .chunks_mut(band)
         .zip(words.chunks_mut(per_band))
         .enumerate()
     {
-        sum_whole(&s, readings, m, i * band, part);
-        write_words(b, &s, part, row);
+        sum_whole(board.settings(), readings, m, i * band, part);
+        write_words(&board, part, row);
     }
     Ok(())
 }

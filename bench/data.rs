@@ -1,6 +1,6 @@
 //! Ramps to measure with: readings of nine samples, of three kinds.
 
-use crate::job::Board;
+use crate::job::{Job, Sides};
 
 /// Numbers that look random and are the same in every run.
 pub struct Draws(u64);
@@ -44,13 +44,16 @@ impl Kind {
 pub const SAMPLES: usize = 9;
 const THRESHOLD: u32 = 13_000;
 
-/// A board with the default weights, r and N, and threshold 13,000.
-pub fn board(side: usize, binned: bool) -> Board {
+/// A job with the default weights, r and N, and threshold 13,000.
+pub fn job(side: usize, binned: bool) -> Job {
     let [low, high] = (THRESHOLD as u16).to_le_bytes();
-    Board {
+    let sides = Sides {
         width: side,
         height: side,
         binned,
+    };
+    Job {
+        sides,
         record: vec![0x00, 0x02, low, high],
     }
 }

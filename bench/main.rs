@@ -3,14 +3,14 @@
 mod agree;
 mod best;
 mod blocks;
+mod board;
 mod data;
 mod job;
 mod limit;
 mod ours;
 mod plain;
-#[allow(dead_code)]
-#[path = "../bindings/ramp_frame.rs"]
-mod ramp_frame;
+#[path = "../bindings/ramp_board.rs"]
+mod ramp_board;
 mod rows;
 mod settings;
 mod table;
@@ -25,16 +25,17 @@ fn check_agreement() {
     for side in SIDES {
         for binned in [false, true] {
             for kind in KINDS {
-                let b = data::board(side, binned);
-                let readings = data::readings(kind, b.pixels(), side as u64);
-                let odd = 7 * b.pixels() / 5 + 3;
-                agreement.ramp(&b, &readings, &[b.pixels(), side, odd]);
+                let job = data::job(side, binned);
+                let readings = data::readings(kind, job.sides.pixels(), side as u64);
+                let odd = 7 * job.sides.pixels() / 5 + 3;
+                let parts = [readings.len(), job.sides.pixels(), side, odd];
+                agreement.ramp(&job, &readings, &parts);
             }
         }
     }
     let mut draws = Draws::new(2026);
     for _ in 0..20_000 {
-        agreement.damaged(&mut draws);
+        agreement.list(&mut draws);
     }
     println!(
         "{} calls: the four programs agree on every sum, word and refusal.",

@@ -1,12 +1,12 @@
 //! A straightforward program: the paper's sentences one after the other, early exits, ordinary branches.
 
-use crate::job::{refuse, Answer, Board, Program};
-use crate::settings::{begin, Settings, MARK, MAX_PRODUCT, MAX_READING};
+use crate::board::{open, Kept, Way};
+use crate::job::{refuse, Answer, Job, Program};
+use crate::settings::{Settings, MARK, MAX_PRODUCT, MAX_READING};
 
 pub const PROGRAM: Program = Program {
     name: "straightforward",
-    feed,
-    read_out,
+    open: open::<Straightforward>,
     frame,
 };
 
@@ -16,15 +16,9 @@ fn possible(entry: i32, k: usize) -> bool {
         || (entry > MARK && entry <= MARK + k)
 }
 
-fn check_feed(b: &Board, s: &Settings, fed: usize, readings: &[u16], sums: &[i32]) -> Answer {
-    let m = b.pixels();
-    if fed > s.samples * m {
-        return refuse(99, 0);
-    }
-    if sums.len() != m {
-        return refuse(11, 0);
-    }
-    if readings.len() > s.samples * m - fed {
+fn check_feed(board: &Kept, readings: &[u16], sums: &[i32]) -> Answer {
+    let (m, fed) = (board.sides().pixels(), board.fed());
+    if readings.len() > board.wanted() - fed {
         return refuse(12, 0);
     }
     if let Some(i) = readings.iter().position(|&x| x > MAX_READING) {
@@ -107,60 +101,52 @@ fn square_word(square: [i32; 4], r: u32) -> u16 {
     }
 }
 
-fn write_words(b: &Board, s: &Settings, sums: &[i32], words: &mut [u16]) {
-    if b.binned {
-        let columns = b.width / 2;
-        for j in 0..b.height / 2 {
+fn write_words(board: &Kept, sums: &[i32], words: &mut [u16]) {
+    let (sides, r) = (board.sides(), board.settings().truncation);
+    if sides.binned {
+        let columns = sides.width / 2;
+        for j in 0..sides.height / 2 {
             for i in 0..columns {
-                let at = 2 * j * b.width + 2 * i;
-                let below = at + b.width;
-                words[j * columns + i] = square_word(
-                    [sums[at], sums[at + 1], sums[below], sums[below + 1]],
-                    s.truncation,
-                );
+                let at = 2 * j * sides.width + 2 * i;
+                let below = at + sides.width;
+                words[j * columns + i] =
+                    square_word([sums[at], sums[at + 1], sums[below], sums[below + 1]], r);
             }
         }
     } else {
         for (word, &entry) in words.iter_mut().zip(sums) {
-            *word = pixel_word(entry, s.truncation);
+            *word = pixel_word(entry, r);
         }
     }
 }
 
-fn feed(b: &Board, fed: usize, readings: &[u16], sums: &mut [i32]) -> Answer {
-    let s = begin(b)?;
-    check_feed(b, &s, fed, readings, sums)?;
-    sum_up(&s, fed, readings, sums);
-    Ok(())
-}
+struct Straightforward;
 
-fn read_out(b: &Board, sums: &[i32], words: &mut [u16]) -> Answer {
-    let s = begin(b)?;
-    if sums.len() != b.pixels() {
-        return refuse(11, 0);
+impl Way for Straightforward {
+    fn feed(board: &Kept, readings: &[u16], sums: &mut [i32]) -> Answer {
+        check_feed(board, readings, sums)?;
+        sum_up(board.settings(), board.fed(), readings, sums);
+        Ok(())
     }
-    if words.len() != b.words() {
-        return refuse(16, 0);
-    }
-    for (p, &entry) in sums.iter().enumerate() {
-        if !possible(entry, s.samples) {
-            return refuse(14, p);
+
+    fn read_out(board: &Kept, sums: &[i32], words: &mut [u16]) -> Answer {
+        board.check_output(board.fed(), words)?;
+        for (p, &entry) in sums.iter().enumerate() {
+            if !possible(entry, board.settings().samples) {
+                return refuse(14, p);
+            }
         }
+        write_words(board, sums, words);
+        Ok(())
     }
-    write_words(b, &s, sums, words);
-    Ok(())
 }
 
-fn frame(b: &Board, readings: &[u16], sums: &mut [i32], words: &mut [u16]) -> Answer {
-    let s = begin(b)?;
-    check_feed(b, &s, 0, readings, sums)?;
-    if readings.len() < s.samples * b.pixels() {
-        return refuse(15, 0);
-    }
-    if words.len() != b.words() {
-        return refuse(16, 0);
-    }
-    sum_up(&s, 0, readings, sums);
-    write_words(b, &s, sums, words);
+fn frame(job: &Job, readings: &[u16], sums: &mut [i32], words: &mut [u16]) -> Answer {
+    let board = Kept::begin(job)?;
+    board.check_ramp(sums)?;
+    check_feed(&board, readings, sums)?;
+    board.check_output(readings.len(), words)?;
+    sum_up(board.settings(), 0, readings, sums);
+    write_words(&board, sums, words);
     Ok(())
 }

@@ -3,9 +3,9 @@
 use std::hint::black_box;
 
 use crate::data::{self, Kind, KINDS};
-use crate::job::{Board, Program};
+use crate::job::{Board, Job, Program};
 pub use crate::timing::Ratio;
-use crate::timing::{take_turns, Times};
+use crate::timing::{take_turns, Timed, Times};
 use crate::{best, blocks, limit, ours, plain};
 
 pub const PROGRAMS: [Program; 4] = [
@@ -55,65 +55,92 @@ impl Row {
     }
 
     /// How many readings a Feed brings.
-    fn part(self, b: &Board, readings: usize) -> usize {
+    fn part(self, job: &Job, readings: usize) -> usize {
         match self {
-            Row::FeedSamples => b.pixels(),
-            Row::FeedRows => b.width,
+            Row::FeedSamples => job.sides.pixels(),
+            Row::FeedRows => job.sides.width,
             _ => readings,
         }
     }
 }
 
-/// The buffers of one program.
-struct Buffers {
+/// The calls of one program: the board that each of them begins with, and the buffers.
+struct Calls<'a> {
+    row: Row,
+    program: &'a Program,
+    job: &'a Job,
+    readings: &'a [u16],
+    begun: Box<dyn Board>,
+    ready: Vec<Box<dyn Board>>,
     sums: Vec<i32>,
     words: Vec<u16>,
 }
 
-fn call(row: Row, program: &Program, b: &Board, readings: &[u16], left: &mut Buffers) {
-    let (b, readings) = (black_box(b), black_box(readings));
-    match row {
-        Row::ReadOut => (program.read_out)(b, black_box(&left.sums), &mut left.words).unwrap(),
-        Row::WholeJob => (program.frame)(b, readings, &mut left.sums, &mut left.words).unwrap(),
-        _ => {
-            let part = row.part(b, readings.len());
-            for (i, some) in readings.chunks(part).enumerate() {
-                (program.feed)(b, i * part, some, &mut left.sums).unwrap();
+impl<'a> Calls<'a> {
+    /// A Feed begins with a ramp that has had no readings, a Read out with one that has had them all.
+    fn new(row: Row, program: &'a Program, job: &'a Job, readings: &'a [u16]) -> Calls<'a> {
+        // No call is inlined: the compiler can't tell whose board it is.
+        let program = black_box(program);
+        let mut begun = program.begin(job);
+        let mut full = begun.copy();
+        let mut sums = vec![0; job.sides.pixels()];
+        full.feed(readings, &mut sums).unwrap();
+        if row == Row::ReadOut {
+            begun = full;
+        }
+        Calls {
+            row,
+            program,
+            job,
+            readings,
+            begun,
+            ready: vec![],
+            sums,
+            words: vec![0; job.sides.words()],
+        }
+    }
+}
+
+impl Timed for Calls<'_> {
+    /// A board for each call, since a call leaves its board elsewhere.
+    fn ready(&mut self, calls: usize) {
+        self.ready.clear();
+        self.ready.extend((0..calls).map(|_| self.begun.copy()));
+    }
+
+    fn call(&mut self, number: usize) {
+        let board = &mut self.ready[number];
+        let (job, readings) = (black_box(self.job), black_box(self.readings));
+        let (sums, words) = (&mut self.sums, &mut self.words);
+        match self.row {
+            Row::ReadOut => board.read_out(black_box(sums), words).unwrap(),
+            Row::WholeJob => (self.program.frame)(job, readings, sums, words).unwrap(),
+            _ => {
+                for some in readings.chunks(self.row.part(job, readings.len())) {
+                    board.feed(some, sums).unwrap();
+                }
             }
         }
     }
 }
 
-fn call_limit(row: Row, readings: &[u16], left: &mut Buffers) {
+fn call_limit(row: Row, readings: &[u16], sums: &mut [i32], words: &mut [u16]) {
     match row {
-        Row::ReadOut => limit::read_out(&left.sums, &mut left.words),
-        Row::WholeJob => limit::frame(readings, &mut left.sums, &mut left.words),
-        _ => limit::feed(readings, &mut left.sums),
+        Row::ReadOut => limit::read_out(sums, words),
+        Row::WholeJob => limit::frame(readings, sums, words),
+        _ => limit::feed(readings, sums),
     }
 }
 
 /// The times of each program and of the limit, in turns.
-fn times(row: Row, b: &Board, readings: &[u16]) -> Times {
-    let mut buffers: Vec<Buffers> = (0..=PROGRAMS.len())
-        .map(|_| {
-            let (mut sums, mut words) = (vec![0; b.pixels()], vec![0; b.words()]);
-            (best::PROGRAM.frame)(b, readings, &mut sums, &mut words).unwrap();
-            Buffers { sums, words }
-        })
-        .collect();
-    let [a, c, d, e, f] = &mut buffers[..] else {
-        unreachable!()
-    };
-    take_turns(
-        &mut [
-            &mut || call(row, &PROGRAMS[0], b, readings, a),
-            &mut || call(row, &PROGRAMS[1], b, readings, c),
-            &mut || call(row, &PROGRAMS[2], b, readings, d),
-            &mut || call(row, &PROGRAMS[3], b, readings, e),
-            &mut || call_limit(row, readings, f),
-        ],
-        SECONDS,
-    )
+fn times(row: Row, job: &Job, readings: &[u16]) -> Times {
+    let (mut sums, mut words) = (vec![0; job.sides.pixels()], vec![0; job.sides.words()]);
+    let mut limit = || call_limit(row, readings, &mut sums, &mut words);
+    let mut calls = PROGRAMS
+        .each_ref()
+        .map(|program| Calls::new(row, program, job, readings));
+    let [a, b, c, d] = &mut calls;
+    take_turns(&mut [a, b, c, d, &mut limit], SECONDS)
 }
 
 /// What was measured of a row on one kind of ramps.
@@ -134,16 +161,16 @@ pub fn measure(sides: &[usize], mut seen: impl FnMut(&Cell)) -> Vec<Cell> {
         for &binned in row.binnings() {
             for kind in KINDS {
                 for &side in sides {
-                    let b = data::board(side, binned);
-                    let readings = data::readings(kind, b.pixels(), side as u64);
-                    let t = times(row, &b, &readings);
+                    let job = data::job(side, binned);
+                    let readings = data::readings(kind, job.sides.pixels(), side as u64);
+                    let t = times(row, &job, &readings);
                     let cell = Cell {
                         row,
                         binned,
                         kind,
                         side,
                         ratios: [1, 2, 3, 4].map(|other| t.ratio(0, other)),
-                        cost: t.least(0) / b.pixels() as f64,
+                        cost: t.least(0) / job.sides.pixels() as f64,
                     };
                     seen(&cell);
                     cells.push(cell);

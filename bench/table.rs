@@ -85,6 +85,17 @@ pub fn targets(cells: &[Cell]) {
             ratios(0, Row::ReadOut, &|c| c.binned == binned),
         );
     }
+    for (side, wanted) in [
+        (128, "1.15 at most"),
+        (512, "1.05 at most"),
+        (1024, "1.05 at most"),
+    ] {
+        show(
+            &format!("Feed per row at side {side}, ours / best"),
+            wanted,
+            ratios(1, Row::FeedRows, &|c| c.side == side),
+        );
+    }
     show(
         "whole job, ours / best",
         "1.05 at most",

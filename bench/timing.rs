@@ -12,26 +12,52 @@ pub struct Ratio {
     pub least: f64,
 }
 
-fn once(call: &mut dyn FnMut(), repeats: usize) -> f64 {
-    let start = Instant::now();
-    for _ in 0..repeats {
-        call();
+/// A call that is timed. What makes it ready isn't.
+pub trait Timed {
+    /// Makes so many calls ready, at most `BLOCK`.
+    fn ready(&mut self, calls: usize);
+    /// The call of this number.
+    fn call(&mut self, number: usize);
+}
+
+impl<F: FnMut()> Timed for F {
+    fn ready(&mut self, _: usize) {}
+
+    fn call(&mut self, _: usize) {
+        self();
     }
-    start.elapsed().as_secs_f64() / repeats as f64
+}
+
+/// How many calls are made ready at once: enough that the clock, which stops between, costs next to nothing, and few enough that what they need stays
+/// in the cache.
+const BLOCK: usize = 16;
+
+fn once(timed: &mut dyn Timed, repeats: usize) -> f64 {
+    let mut seconds = 0.0;
+    for first in (0..repeats).step_by(BLOCK) {
+        let calls = BLOCK.min(repeats - first);
+        timed.ready(calls);
+        let start = Instant::now();
+        for number in 0..calls {
+            timed.call(number);
+        }
+        seconds += start.elapsed().as_secs_f64();
+    }
+    seconds / repeats as f64
 }
 
 /// The times of each call, round by round. The calls take turns, and each round another one begins.
 pub struct Times(Vec<Vec<f64>>);
 
-pub fn take_turns(calls: &mut [&mut dyn FnMut()], seconds: f64) -> Times {
+pub fn take_turns(calls: &mut [&mut dyn Timed], seconds: f64) -> Times {
     let mut repeats = vec![1; calls.len()];
     let mut round = 0.0;
     for (i, call) in calls.iter_mut().enumerate() {
-        call();
-        let mut took = once(call, 1);
+        once(*call, 1);
+        let mut took = once(*call, 1);
         while took * (repeats[i] as f64) < LEAST {
             repeats[i] *= 2;
-            took = once(call, repeats[i]);
+            took = once(*call, repeats[i]);
         }
         round += took * repeats[i] as f64;
     }

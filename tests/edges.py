@@ -12,7 +12,7 @@ import socket
 import subprocess
 from typing import Callable, Iterator, Optional
 
-SECONDS = 20
+SECONDS = 20  # that a program may take
 PIPE = 4_096  # the smallest pipe
 PIECE = 64  # a piece of the output is shorter
 SET_PIPE_SIZE = 1_031  # F_SETPIPE_SZ, which Python names from 3.10 on
@@ -21,11 +21,15 @@ UNKNOWN = 2  # the exit status for an argument that is not known
 END_OF_INPUT = b"\x04"  # what Ctrl-D sends
 NO_FILE = subprocess.DEVNULL
 Ends = tuple[int, bytes, bytes]  # exit status, standard output, standard error
+ENDLESS: Ends = (-1, b"", b"")  # of a program that takes longer, as none should end
 
 
 def run(program: str, *words: str, given: int = NO_FILE, out: int = subprocess.PIPE, first: Optional[Callable[[], object]] = None) -> Ends:
     """How a program ends with these arguments on these descriptors, after what is done first."""
-    ran = subprocess.run([program, *words], stdin=given, stdout=out, stderr=subprocess.PIPE, preexec_fn=first, timeout=SECONDS, check=False)
+    try:
+        ran = subprocess.run([program, *words], stdin=given, stdout=out, stderr=subprocess.PIPE, preexec_fn=first, timeout=SECONDS, check=False)
+    except subprocess.TimeoutExpired:
+        return ENDLESS
     return ran.returncode, ran.stdout or b"", ran.stderr
 
 
@@ -116,8 +120,6 @@ def one_end(program: str, example: bytes, text: bytes) -> bool:
     os.write(ours, example + END_OF_INPUT)
     try:
         return run(program, given=theirs) == (0, text, b"")
-    except subprocess.TimeoutExpired:
-        return False
     finally:
         os.close(ours)
         os.close(theirs)

@@ -1,21 +1,23 @@
-"""Compares the exported functions with the second program: frames.py LIBRARY SEED COUNT.
+"""Compares frames in one call, the flags of frames, and the meaning of words with the second program: frames.py LIBRARY SEED COUNT.
 
-LIBRARY is their shared library. Each case is a frame: sides, binning, a record, readings, sums and words as a caller brings them, good or bad.
-It is made in one call, and then another ramp is fed in parts and read out. Answers, places, sums and words must agree. Two frames are large.
-Then as many frames of words are asked for the flag nearest to a place, and as many for the flags in a box, good or bad; two more of each are large.
-Prints how many agreed; the exit status is 1 if any did not.
+LIBRARY is the shared library. COUNT frames are made in one call, from sides, binning, a record, readings, sums and words as a caller brings them,
+good or bad; two more are large. As many frames of words are asked for the flag nearest to a place, and as many for the flags in a box, good or bad;
+two more of each are large. As many words are read, and those at the edges of their kinds. Answers, places, and all that a call is lent must agree,
+and nothing may be written beside it. Prints how many agreed; the exit status is 1 if any did not.
 """
 
 from __future__ import annotations
 
 import ctypes
-import os
 import sys
-from typing import Optional
+from functools import partial
+from itertools import product
+from typing import Callable, Iterable
 
-sys.path.insert(0, os.path.join(os.path.dirname(os.path.abspath(__file__)), "second"))
+# exported.py makes the second program's folder known.
+from exported import BEFORE, BYTE, ENTRY, SHORT, SIZE, Exported, Lent, place_for
 
-from draw_flags import (  # noqa: E402
+from draw_flags import (
     DENSITIES,
     FLAGS,
     draw_box,
@@ -28,16 +30,19 @@ from draw_flags import (  # noqa: E402
     wrong_sides,
     wrong_words,
 )
-from draws import Draws, draw_record  # noqa: E402
-from flags import Place, count_flags, nearest_flag  # noqa: E402
-from ramp import Refusal, open_board  # noqa: E402
+from draws import Draws, draw_record
+from flags import Place, count_flags, nearest_flag
+from ramp import Refusal, open_board, read_word
 
-SIZE = ctypes.c_size_t
+DOUBLE = ctypes.c_double
+KINDS = ("ordinary", "saturated", "negative", "none")
+EDGES = (0, 1, 32_751, 32_752, 32_753, 32_761, 32_762, 32_766, 32_767, 32_768, 65_535)
+TRUNCATIONS = (0, 1, 2, 3, 4, 255, 256, 257, 65_535)
+LONGEST = 300  # of what is printed of a case
+
 Case = tuple[int, int, bool, list[int], list[int], list[int], list[int]]
-Left = tuple[int, int, list[int], list[int]]
 Question = tuple[list[int], int, int, list[int]]
-Told = tuple[int, list[int], list[int]]
-BEFORE = [7_777, 8_888, 9_999]
+Told = tuple[int, int, list[list[int]]]  # a number, a place, and what each buffer and each place for an answer holds
 
 
 def draw_case(draws: Draws) -> Case:
@@ -74,19 +79,34 @@ def draw_case(draws: Draws) -> Case:
     return width, height, binned, record, readings, sums, words
 
 
-def second(case: Case) -> Left:
-    """What the second program makes of a case."""
-    width, height, binned, record, readings, sums, words = case
+def second_frame(case: Case) -> Told:
+    """What the second program makes of a frame."""
+    width, height, binned, *buffers = case
+    record, readings, sums, words = map(list, buffers)
     board = open_board(width, height, binned)
-    if isinstance(board, Refusal):
-        return board.number, board.place, sums, words
-    new_sums, new_words = list(sums), list(words)
-    refusal = (
-        board.update(record) or board.start() or board.feed(readings, new_sums) or board.read_out(new_sums, new_words)
+    refusal = board if isinstance(board, Refusal) else (
+        board.update(record) or board.start() or board.feed(readings, sums) or board.read_out(sums, words)
     )
     if refusal:
-        return refusal.number, refusal.place, sums, words
-    return 0, 0, new_sums, new_words
+        return refusal.number, refusal.place, buffers
+    return 0, 0, [record, readings, sums, words]
+
+
+def found_frame(exported: Exported, case: Case) -> Told:
+    """What the library makes of a frame."""
+    width, height, binned, *buffers = case
+    lent = [Lent(kind, numbers) for kind, numbers in zip((BYTE, SHORT, ENTRY, SHORT), buffers)]
+    answer = exported.answer("ramp_frame", SIZE(width), SIZE(height), ctypes.c_bool(binned), *lent)
+    return (*answer, [buffer.content() for buffer in lent])
+
+
+def large_case(side: int, samples: int) -> Case:
+    """A large frame, of squares."""
+    draws = Draws(side)
+    row = [draws.below(16_384) for _ in range(4 * side)]
+    readings = (row * (samples * side // 4 + 1))[: samples * side * side]
+    record = [0, 8, samples]
+    return side, side, True, record, readings, [0] * side**2, [0] * (side**2 // 4)
 
 
 def draw_question(draws: Draws, boxed: bool) -> Question:
@@ -124,147 +144,83 @@ def large_questions(boxed: bool) -> list[Question]:
     return [(one, side, side, [0, 0]), (few, side, side, draw_place(draws, side, side))]
 
 
-def second_answer(question: Question, boxed: bool) -> Told:
-    """What the second program answers, with what it leaves of the numbers that were there before, and of the words."""
+def second_flags(question: Question, boxed: bool) -> Told:
+    """What the second program answers about flags."""
     words, width, height, numbers = question
     places = [Place(*numbers[at : at + 2]) for at in range(0, len(numbers), 2)]
+    before = [[BEFORE]] * (1 if boxed else 3)
     answer = count_flags(words, width, height, *places) if boxed else nearest_flag(words, width, height, *places)
     if isinstance(answer, Refusal):
-        return answer.number, BEFORE, words
+        return answer.number, answer.place, [words, *before]
     if isinstance(answer, Place):
-        return 0, [1, answer.row, answer.column], words
-    return 0, [answer or 0, *BEFORE[1:]], words
+        return 0, 0, [words, [1], [answer.row], [answer.column]]
+    return 0, 0, [words, [answer or 0], *before[1:]]
 
 
-class Exported:
-    """The exported functions, on plain lists."""
-
-    def __init__(self, library: str) -> None:
-        self.library = ctypes.CDLL(os.path.abspath(library))
-
-    def call(self, name: str, case: tuple, *rest: object) -> tuple[int, int]:
-        """The number and the place that a function answers for sides, binning and a record, and what else it takes."""
-        function = getattr(self.library, name)
-        function.restype = ctypes.c_uint8
-        width, height, binned, record = case
-        place = SIZE(99)
-        arguments: list[object] = [SIZE(width), SIZE(height), ctypes.c_bool(binned), *lent(ctypes.c_uint8, record)]
-        number = function(*arguments, *rest, ctypes.byref(place))
-        return number, place.value
-
-    def frame(self, case: Case) -> Left:
-        """A whole frame."""
-        readings, sums, words = case[4:]
-        some = lent(ctypes.c_uint16, readings)
-        sum_buffer, word_buffer = lent(ctypes.c_int32, sums), lent(ctypes.c_uint16, words)
-        answer = self.call("ramp_frame", case[:4], *some, *sum_buffer, *word_buffer)
-        return (*answer, content(sum_buffer, sums), content(word_buffer, words))
-
-    def feed(self, board: tuple, fed: int, readings: list[int], sums: list[int]) -> tuple[int, int, list[int]]:
-        """Feed alone."""
-        sum_buffer = lent(ctypes.c_int32, sums)
-        answer = self.call("ramp_feed", board, SIZE(fed), *lent(ctypes.c_uint16, readings), *sum_buffer)
-        return (*answer, content(sum_buffer, sums))
-
-    def read_out(self, board: tuple, sums: list[int], words: list[int]) -> tuple[int, int, list[int]]:
-        """Read out alone."""
-        word_buffer = lent(ctypes.c_uint16, words)
-        answer = self.call("ramp_read_out", board, *lent(ctypes.c_int32, sums), *word_buffer)
-        return (*answer, content(word_buffer, words))
-
-    def answer(self, question: Question, boxed: bool) -> Told:
-        """The flag nearest to a place, or the flags in a box."""
-        words, *sides, numbers = question
-        function = getattr(self.library, "ramp_count_flags" if boxed else "ramp_nearest_flag")
-        function.restype = ctypes.c_uint8
-        left = [SIZE(value) for value in BEFORE]
-        pointers = [ctypes.byref(value) for value in left[: 1 if boxed else 3]]
-        buffer = lent(ctypes.c_uint16, words)
-        number = function(*buffer, *map(SIZE, (*sides, *numbers)), *pointers)
-        return number, [value.value for value in left], content(buffer, words)
+def found_flags(exported: Exported, question: Question, boxed: bool) -> Told:
+    """What the library answers about flags."""
+    words, *sides, numbers = question
+    buffer, told = Lent(SHORT, words), [place_for(SIZE, BEFORE) for _ in range(1 if boxed else 3)]
+    name = "ramp_count_flags" if boxed else "ramp_nearest_flag"
+    answer = exported.answer(name, buffer, *map(SIZE, (*sides, *numbers)), *told)
+    return (*answer, [lent.content() for lent in (buffer, *told)])
 
 
-def lent(kind: type, numbers: list[int]) -> tuple[object, ctypes.c_size_t]:
-    """A buffer with these numbers, and its length."""
-    return (kind * max(1, len(numbers)))(*numbers), SIZE(len(numbers))
+def draw_word(draws: Draws) -> tuple[int, int]:
+    """A truncation and a word."""
+    return draws.choose((1, 2, 3, *TRUNCATIONS)), draws.below(65_536)
 
 
-def content(buffer: tuple, numbers: list[int]) -> list[int]:
-    """What a buffer that was lent for these numbers holds."""
-    return list(buffer[0])[: len(numbers)]
+def second_meaning(truncation: int, word: int) -> Told:
+    """What the second program reads in a word: its kind, its limits and its sample."""
+    meaning = read_word(word, truncation)
+    before = [BEFORE, BEFORE, BEFORE]
+    if isinstance(meaning, Refusal):
+        return meaning.number, meaning.place, [[number] for number in (BEFORE, *before)]
+    if meaning[0] == "ordinary":
+        before[:2] = meaning[1:]
+    if meaning[0] == "saturated":
+        before[2:] = meaning[1:]
+    return 0, 0, [[number] for number in (KINDS.index(meaning[0]), *before)]
 
 
-def pair(refusal: Optional[Refusal]) -> tuple[int, int]:
-    """The number and the place of an answer."""
-    return (refusal.number, refusal.place) if refusal else (0, 0)
+def found_meaning(exported: Exported, truncation: int, word: int) -> Told:
+    """What the library reads in a word."""
+    told = [place_for(kind, BEFORE) for kind in (BYTE, DOUBLE, DOUBLE, SHORT)]
+    answer = exported.answer("ramp_read_word", SHORT(truncation), SHORT(word), *told)
+    return (*answer, [place.content() for place in told])
 
 
-def frame_agrees(exported: Exported, case: Case) -> bool:
-    """Whether a whole frame agrees."""
-    expected, found = second(case), exported.frame(case)
-    if expected != found:
-        print(f"{case[:4]}: expected {expected[:2]}, found {found[:2]}")
-    return expected == found
+def agreeing(what: str, cases: Iterable[tuple], second: Callable[..., Told], found: Callable[..., Told]) -> bool:
+    """Whether all cases agree; prints how many do, and each one that doesn't."""
+    tried = wrong = 0
+    for case in cases:
+        tried += 1
+        expected, answer = second(*case), found(*case)
+        if expected != answer:
+            wrong += 1
+            print(f"{what} {shortened(case)}: expected {shortened(expected)}, found {shortened(answer)}")
+    print(f"{tried - wrong} of {tried} {what} agree")
+    return wrong == 0
 
 
-def steps_agree(exported: Exported, draws: Draws) -> bool:
-    """Whether a ramp that is fed in parts, now and then with an entry damaged, agrees at each step."""
-    case = draw_case(draws)
-    width, height, binned, record, readings, sums, words = case
-    board = open_board(width, height, binned)
-    if isinstance(board, Refusal) or board.update(record) or board.start():
-        return exported.feed(case[:4], 0, readings, sums)[:2] == second(case)[:2]
-    fed = 0
-    while fed < len(readings):
-        part = readings[fed : fed + draws.between(1, len(readings))]
-        if sums and draws.chance(20):
-            sums[draws.below(len(sums))] = draws.choose((-1, 2**30, 2**30 + 1, 2**30 + 9, 2**31 - 1))
-        expected = list(sums)
-        answer = pair(board.feed(part, expected))
-        if exported.feed(case[:4], fed, part, sums) != (*answer, expected):
-            return False
-        if answer != (0, 0):
-            return True
-        sums, fed = expected, fed + len(part)
-    if board.wanted > 0:
-        return True
-    expected = list(words)
-    answer = pair(board.read_out(sums, expected))
-    return exported.read_out(case[:4], sums, words) == (*answer, expected)
-
-
-def flags_agree(exported: Exported, question: Question, boxed: bool) -> bool:
-    """Whether the nearest flag, or the count of flags, agrees."""
-    expected, found = second_answer(question, boxed), exported.answer(question, boxed)
-    if expected != found:
-        name = "count" if boxed else "nearest"
-        print(f"{name} of {len(question[0])} words, {question[1:]}: expected {expected[:2]}, found {found[:2]}")
-    return expected == found
-
-
-def large_case(side: int, samples: int) -> Case:
-    """A large frame, of squares."""
-    draws = Draws(side)
-    row = [draws.below(16_384) for _ in range(4 * side)]
-    readings = (row * (samples * side // 4 + 1))[: samples * side * side]
-    record = [0, 8, samples]
-    return side, side, True, record, readings, [0] * side**2, [0] * (side**2 // 4)
+def shortened(value: object) -> str:
+    text = repr(value)
+    return text if len(text) <= LONGEST else f"{text[:LONGEST]}.."
 
 
 def main() -> int:
-    library, seed, count = sys.argv[1], int(sys.argv[2]), int(sys.argv[3])
-    draws, exported = Draws(seed), Exported(library)
+    exported, draws, count = Exported(sys.argv[1]), Draws(int(sys.argv[2])), int(sys.argv[3])
     frames = [large_case(1_024, 1), large_case(256, 9), *(draw_case(draws) for _ in range(count))]
-    agreed = sum(frame_agrees(exported, case) for case in frames)
-    ramps = sum(steps_agree(exported, draws) for _ in range(count))
-    said, right = [], agreed == len(frames) and ramps == count
-    for boxed, name in ((False, "nearest flags"), (True, "counts of flags")):
+    words = [*product(TRUNCATIONS, EDGES), *(draw_word(draws) for _ in range(count))]
+    right = [
+        agreeing("frames", ((case,) for case in frames), second_frame, partial(found_frame, exported)),
+        agreeing("words", words, second_meaning, partial(found_meaning, exported)),
+    ]
+    for boxed, what in ((False, "nearest flags"), (True, "counts of flags")):
         questions = [*large_questions(boxed), *(draw_question(draws, boxed) for _ in range(count))]
-        same = sum(flags_agree(exported, question, boxed) for question in questions)
-        said.append(f"{same} of {len(questions)} {name}")
-        right = right and same == len(questions)
-    print(f"{agreed} of {len(frames)} frames agree, {ramps} of {count} ramps in steps, {said[0]} and {said[1]}")
-    return not right
+        right.append(agreeing(what, ((question, boxed) for question in questions), second_flags, partial(found_flags, exported)))
+    return not all(right)
 
 
 if __name__ == "__main__":

@@ -12,26 +12,38 @@ import importlib
 import random
 import subprocess
 import sys
+from itertools import zip_longest
 from pathlib import Path
 from typing import Iterator
 
 TESTS = Path(__file__).resolve().parent
 sys.path.insert(0, str(TESTS / "second"))
 
-from edges import edges  # noqa: E402
+from edges import SECONDS, edges  # noqa: E402
 
 MEGABYTE = 1_000_000
 EXAMPLES = {"jig": TESTS.parent / "crates" / "jig" / "stdin", "replay": TESTS / "stored" / "replay" / "small_board.in"}
 LONGEST = 1_500
+LONGEST_LINE = 150
 # An input of whole lines, and one with more output than a small pipe takes.
 LINES = {"jig": b"\n", "replay": b"open 2 1 0\nstart\n"}
 LONG = {"jig": bytes([0, 1, 1, 0, 0, 3, 0, 8, 1]) + bytes(512), "replay": b"words 2 5 7\n" * 2_000}
 
 
-def printed_by(program: str, given: bytes) -> bytes:
-    """What a program prints; one that ends badly prints nothing that agrees."""
-    ran = subprocess.run([program], input=given, capture_output=True, timeout=20)
-    return ran.stdout if ran.returncode == 0 and not ran.stderr else b"ended badly"
+def printed_by(command: list[str], given: bytes) -> bytes:
+    """What a command prints; one that ends badly, or not in time, prints nothing that agrees."""
+    try:
+        ran = subprocess.run(command, input=given, capture_output=True, timeout=SECONDS, check=False)
+    except subprocess.TimeoutExpired:
+        return b"no end within %d seconds" % SECONDS
+    return ran.stdout if ran.returncode == 0 and not ran.stderr else b"ended badly: " + ran.stderr[-LONGEST_LINE:]
+
+
+def difference(expected: bytes, found: bytes) -> str:
+    """Where the lines that were printed first differ from those that were expected, and how."""
+    pairs = zip_longest(expected.splitlines(keepends=True), found.splitlines(keepends=True), fillvalue=b"")
+    number, line, other = next((number, *pair) for number, pair in enumerate(pairs, 1) if pair[0] != pair[1])
+    return f"at line {number}: expected {line[:LONGEST_LINE]!r}, found {other[:LONGEST_LINE]!r}"
 
 
 def stored(name: str) -> Iterator[tuple[str, bytes, bytes]]:
@@ -71,10 +83,11 @@ def main() -> int:
     tried = agreed = 0
     for case, given, expected in cases():
         tried += 1
-        if printed_by(program, given) == expected:
+        found = printed_by([program], given)
+        if found == expected:
             agreed += 1
         else:
-            print(f"{case} differs")
+            print(f"{case} differs {difference(expected, found)}")
     wrong = [case for case, right in edges(name, program, LINES[name], LONG[name], second.run) if not right]
     for case in wrong:
         print(f"{case}: wrong")

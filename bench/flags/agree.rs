@@ -1,7 +1,7 @@
 //! Both programs must agree on every nearest flag, every count and every refusal before anything is timed.
 
 use crate::data::Draws;
-use crate::ramp_frame::Refusal;
+use crate::ramp_board::Refusal;
 use crate::rows::{Asked, Place, Row, FLAGS, PROGRAMS, SIDE};
 
 /// Words that are no flags, though they are near to one.

@@ -8,9 +8,8 @@ mod data;
 #[path = "../job.rs"]
 mod job;
 mod plain;
-#[allow(dead_code)]
-#[path = "../../bindings/ramp_frame.rs"]
-mod ramp_frame;
+#[path = "../../bindings/ramp_board.rs"]
+mod ramp_board;
 mod rows;
 mod table;
 #[path = "../timing.rs"]

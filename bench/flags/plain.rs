@@ -1,6 +1,6 @@
 //! Straightforward answers about flags: the checks one after the other, then one pass over all words for the nearest flag, and over the box for a count.
 
-use crate::ramp_frame::Refusal;
+use crate::ramp_board::Refusal;
 use crate::rows::{Count, Nearest, Place, Program};
 
 pub const PROGRAM: Program = Program {

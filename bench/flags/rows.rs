@@ -4,7 +4,7 @@ use std::hint::black_box;
 
 use crate::data::Draws;
 use crate::plain;
-use crate::ramp_frame::{count_flags, nearest_flag, Refusal};
+use crate::ramp_board::{count_flags, nearest_flag, Refusal};
 use crate::timing::{take_turns, Ratio};
 
 /// A row and a column.

@@ -29,6 +29,7 @@ from draw_flags import (
 )
 from draws import Draws, draw_bad_record, draw_board, draw_ramp, draw_record, encode_record
 from flags import Place, count_flags, is_flag, nearest_flag
+from lent_board import PARTS, WORDS, Call, Left, board_in, made
 from ramp import (
     MARK,
     MAX_PRODUCT,
@@ -722,6 +723,63 @@ class Replay(unittest.TestCase):
 
     def test_same_seed_same_files(self) -> None:
         self.assertEqual(make_replay.make(19, 16), make_replay.make(19, 16))
+
+
+class LentBoards(unittest.TestCase):
+    """A board in a lent buffer."""
+
+    def calls(self, board: Board) -> list[Call]:
+        """Every operation but Open."""
+        sums = [PEDESTAL] * board.pixels
+        calls = [Call("update", ([0, 8, 2],)), Call("start"), Call("feed", ([5], sums))]
+        calls += [Call("read_out", (sums, [0] * board.words)), Call("drop"), Call("covered", ([7],))]
+        return calls
+
+    def test_a_call_does_what_it_does_on_the_board(self) -> None:
+        draws = Draws(25)
+        for _ in range(300):
+            words = draw_board(draws)
+            board = board_in(words)
+            assert isinstance(board, Board)
+            self.assertEqual(replay.board_numbers(board), words)
+            if board.pixels > 1_024:
+                continue
+            for call in self.calls(board):
+                other, buffers = replay.board_of(words), [list(buffer) for buffer in call.buffers]
+                if call.name == "covered":
+                    found = other.covered()
+                    refusal = found if isinstance(found, Refusal) else None
+                    buffers = [[7 if refusal else int(found is True)]]
+                else:
+                    refusal = getattr(other, call.name)(*buffers)
+                answer = refusal or Refusal(0)
+                left = Left(*answer, replay.board_numbers(other), buffers)
+                self.assertEqual(made(call, words), left)
+
+    def test_words_that_no_part_can_have(self) -> None:
+        running = opened(2, 1)
+        running.start()
+        for board in (opened(2, 1), running):
+            good = replay.board_numbers(board)
+            for at, (low, high) in enumerate(PARTS):
+                for word in (low - 1, high + 1, -(2**63), good[at] - 2**32):
+                    words = [*good[:at], word, *good[at + 1 :]]
+                    self.assertEqual(board_in(words), Refusal(99))
+                    for call in self.calls(board):
+                        self.assertEqual(made(call, words), Left(99, 0, words, list(call.buffers)))
+
+    def test_another_length(self) -> None:
+        good = replay.board_numbers(opened(2, 1))
+        for words in ([], good[:-1], [*good, 0], good * 2):
+            for call in (*self.calls(opened(2, 1)), Call("open", sides=(0, 0, True)), Call("open", sides=(2, 1, False))):
+                self.assertEqual(made(call, words), Left(99, 0, words, list(call.buffers)))
+
+    def test_open_does_not_look(self) -> None:
+        for word in (0, -1, 2**63 - 1):
+            words = [word] * WORDS
+            taken = Left(0, 0, replay.board_numbers(opened(4, 2, True)), [])
+            self.assertEqual(made(Call("open", sides=(4, 2, True)), words), taken)
+            self.assertEqual(made(Call("open", sides=(3, 2, True)), words), Left(1, 0, words, []))
 
 
 if __name__ == "__main__":

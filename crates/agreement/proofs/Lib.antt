@@ -1,4 +1,4 @@
--- Frames that are fed in parts, and frames as lists of calls.
-pub mod Parts
+-- Frames, and calls on lent memory, as lists of calls.
 pub mod Calls
+pub mod Lent
 pub mod Laws

@@ -1,2 +1,3 @@
--- The laws between a whole frame, its single steps and a list of calls.
+-- The laws between a whole frame, a board in lent memory and a list of calls.
 pub mod Laws
+pub mod Lent

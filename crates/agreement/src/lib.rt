@@ -1,2 +1,2 @@
-//! No code: a frame in one call, a ramp in parts and a list of calls agree.
+//! No code: a frame in one call, a board in lent memory and a list of calls agree.
 #![tactic(auto)]

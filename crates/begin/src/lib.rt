@@ -1,4 +1,4 @@
-//! What a frame and each single step of it begin with: a board is opened, updated and started.
+//! What a frame begins with: a board is opened, updated and started.
 #![tactic(auto)]
 
 ghost use Rattle.std.specs.Prelude.{◌≡◌};

@@ -14,9 +14,9 @@ use written::first_impossible_written;
 
 // 12, 13 and 14 of Feed.
 #[tactic(auto, using(crate::proofs::Feedable::wanted_left), unfolding(checks::specs::Checks::verdict))]
-fn check_readings(board: Board, readings: &[u16], sums: &[i32]) -> Answer
-    requires { (sound board ≡ true) × (length sums.now ≡ board_area board) }
-    ensures { result ≡ verdict (reading_checks board readings.now sums.now) }
+fn check_readings(board: &Board, readings: &[u16], sums: &[i32]) -> Answer
+    requires { (sound board.now ≡ true) × (length sums.now ≡ board_area board.now) }
+    ensures { result ≡ verdict (reading_checks board.now readings.now sums.now) }
 {
     let count = readings.len();
     refuse_when(count > board.wanted() - board.fed, Reason::TooManyReadings)?;
@@ -25,12 +25,36 @@ fn check_readings(board: Board, readings: &[u16], sums: &[i32]) -> Answer
     refuse_at(impossible, Reason::EntryNotPossible)
 }
 
-/// Every check of Feed, which nothing is written before.
-pub fn check_feed(board: Board, readings: &[u16], sums: &[i32]) -> Answer
-    ensures { result ≡ verdict (feed_checks board readings.now sums.now) }
+// The checks of Feed on a sound board, 10 to 14.
+fn check_feed_sound(board: &Board, readings: &[u16], sums: &[i32]) -> Answer
+    requires { sound board.now ≡ true }
+    ensures { result ≡ verdict (feed_checks board.now readings.now sums.now) }
 {
-    board.check_ramp(sums.len())?;
+    board.check_running(sums.len())?;
     check_readings(board, readings, sums)
+}
+
+/// Every check of Feed, which nothing is written before.
+#[tactic(auto, unfolding(checks::specs::Checks::verdict))]
+pub fn check_feed(board: &Board, readings: &[u16], sums: &[i32]) -> Answer
+    ensures { result ≡ verdict (feed_checks board.now readings.now sums.now) }
+{
+    board.check_sound()?;
+    check_feed_sound(board, readings, sums)
+}
+
+/// Feed of a sound board: all of it but its first check, 99.
+#[tactic(auto, unfolding(operations::specs::Feed::feed_of, operations::specs::Feed::fed_sums))]
+pub fn feed_sound(board: &mut Board, readings: &[u16], sums: &mut [i32]) -> Answer
+    requires { sound board.old ≡ true }
+    ensures answer { result ≡ (feed_of board.old readings.now sums.old).answer }
+    ensures board { board.new ≡ (feed_of board.old readings.now sums.old).board }
+    ensures sums { sums.new ≡ fed_sums board.old readings.now sums.old }
+{
+    check_feed_sound(board, readings, sums)?;
+    write_sums(&board.in_force, board.fed, readings, sums);
+    board.fed += readings.len();
+    Ok(())
 }
 
 /// Feed. Takes a board, readings and the sums. Leaves each reading accumulated into its pixel's entry, and so many more readings fed.
@@ -38,14 +62,12 @@ pub fn check_feed(board: Board, readings: &[u16], sums: &[i32]) -> Answer
 /// the ramp still wants, 13 for a reading above 16,383, at its place in the readings, and 14 for an entry that the ramp has written, that gets a reading now
 /// and that isn't possible, at its place in the sums. Board and sums are then as they were.
 /// The definitions are `feed_of` and `fed_sums` in operations/specs/Feed.antt.
-#[tactic(auto, unfolding(operations::specs::Feed::feed_of, operations::specs::Feed::fed_sums))]
+#[tactic(auto, unfolding(operations::specs::Feed::feed_of, operations::specs::Feed::fed_sums, checks::specs::Checks::verdict))]
 pub fn feed(board: &mut Board, readings: &[u16], sums: &mut [i32]) -> Answer
     ensures answer { result ≡ (feed_of board.old readings.now sums.old).answer }
     ensures board { board.new ≡ (feed_of board.old readings.now sums.old).board }
     ensures sums { sums.new ≡ fed_sums board.old readings.now sums.old }
 {
-    check_feed(*board, readings, sums)?;
-    write_sums(board.in_force, board.fed, readings, sums);
-    board.fed += readings.len();
-    Ok(())
+    board.check_sound()?;
+    feed_sound(board, readings, sums)
 }

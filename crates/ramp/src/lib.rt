@@ -29,13 +29,13 @@ fn feed_part(sample: Sample, readings: &[u16], sums: &mut [i32])
 }
 
 // Readings of sample n, and the entries of their pixels.
-fn feed_sample(settings: Settings, n: usize, readings: &[u16], sums: &mut [i32])
+fn feed_sample(settings: &Settings, n: usize, readings: &[u16], sums: &mut [i32])
     requires readings_len { length readings.now ≡ length sums.old }
     requires le_n { (1 ≤ n) × (n ≤ max_samples) }
-    requires settings_value { in_range settings ≡ true }
+    requires settings_value { in_range settings.now ≡ true }
     requires readings_value { every reading_in_range readings.now ≡ true }
     requires sums_value { 1 < n → every entry_in_range sums.old ≡ true }
-    ensures { sums.new ≡ over (λ x e. step settings n e x) readings.now sums.old }
+    ensures { sums.new ≡ over (λ x e. step settings.now n e x) readings.now sums.old }
 {
     let sample = Sample {
         n,
@@ -47,9 +47,9 @@ fn feed_sample(settings: Settings, n: usize, readings: &[u16], sums: &mut [i32])
 
 /// The writing pass of Feed: sample by sample, each over the part of the sums that its readings reach. No chunks: the first part may begin within a sample, and would be a second call beside
 /// theirs.
-pub fn write_sums(settings: Settings, fed: usize, readings: &[u16], sums: &mut [i32])
-    requires { Feedable settings fed readings.now sums.old }
-    ensures { sums.new ≡ sums_after settings fed readings.now sums.old }
+pub fn write_sums(settings: &Settings, fed: usize, readings: &[u16], sums: &mut [i32])
+    requires { Feedable settings.now fed readings.now sums.old }
+    ensures { sums.new ≡ sums_after settings.now fed readings.now sums.old }
 {
     let m = sums.len();
     let mut rest = readings;

@@ -27,9 +27,9 @@ pub fn word_count(sides: Sides) -> usize
 
 // The checks of Read out itself, in their order: 15, 16 and 14.
 #[tactic(auto, using(crate::proofs::Readable::of_sound), unfolding(checks::specs::Checks::verdict))]
-fn check_output(board: Board, sums: &[i32], words: usize) -> Answer
-    requires { sound board ≡ true }
-    ensures { result ≡ verdict (output_checks board sums.now words) }
+fn check_output(board: &Board, sums: &[i32], words: usize) -> Answer
+    requires { sound board.now ≡ true }
+    ensures { result ≡ verdict (output_checks board.now sums.now words) }
 {
     refuse_when(board.fed < board.wanted(), Reason::ReadingsWanted)?;
     refuse_when(words != word_count(board.sides), Reason::WordsLength)?;
@@ -37,8 +37,8 @@ fn check_output(board: Board, sums: &[i32], words: usize) -> Answer
     refuse_at(impossible, Reason::EntryNotPossible)
 }
 
-fn check_read_out(board: Board, sums: &[i32], words: &[u16]) -> Answer
-    ensures { result ≡ verdict (read_out_checks board sums.now words.now) }
+fn check_read_out(board: &Board, sums: &[i32], words: &[u16]) -> Answer
+    ensures { result ≡ verdict (read_out_checks board.now sums.now words.now) }
 {
     board.check_ramp(sums.len())?;
     check_output(board, sums, words.len())
@@ -55,7 +55,7 @@ pub fn read_out(board: &mut Board, sums: &[i32], words: &mut [u16]) -> Answer
     ensures board { board.new ≡ (read_out_of board.old sums.now words.old).board }
     ensures words { words.new ≡ read_out_words board.old sums.now words.old }
 {
-    check_read_out(*board, sums, words)?;
+    check_read_out(board, sums, words)?;
     write_frame(board.sides, board.in_force.truncation, sums, words);
     *board = board.ended();
     Ok(())

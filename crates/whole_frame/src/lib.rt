@@ -14,9 +14,9 @@ use read_out::word_count;
 use sides::Sides;
 
 // The checks of Feed and of a Read out after it, on a ramp with nothing fed. Read out's 14 would find nothing: what Feed leaves is possible.
-fn check(board: Board, readings: &[u16], sums: &[i32], words: &[u16]) -> Answer
-    requires { board.fed ≡ 0 }
-    ensures { result ≡ frame_answer_on board readings.now sums.now words.now }
+fn check(board: &Board, readings: &[u16], sums: &[i32], words: &[u16]) -> Answer
+    requires { board.now.fed ≡ 0 }
+    ensures { result ≡ frame_answer_on board.now readings.now sums.now words.now }
 {
     check_feed(board, readings, sums)?;
     refuse_when(readings.len() < board.wanted(), Reason::ReadingsWanted)?;
@@ -33,9 +33,9 @@ pub fn frame_on(board: Board, readings: &[u16], sums: &mut [i32], words: &mut [u
     ensures sums { sums.new ≡ frame_sums_on board readings.now sums.old words.old }
     ensures words { words.new ≡ frame_words_on board readings.now sums.old words.old }
 {
-    check(board, readings, sums, words)?;
+    check(&board, readings, sums, words)?;
     let settings = board.in_force;
-    write_sums(settings, board.fed, readings, sums);
+    write_sums(&settings, board.fed, readings, sums);
     write_frame(board.sides, settings.truncation, sums, words);
     Ok(())
 }

@@ -16,6 +16,10 @@ fn first_between(start: usize, end: usize, k: usize, sums: &[i32]) -> Option<usi
     requires { (start ≤ end) × (end ≤ length sums.now) × (1 ≤ k) × (k ≤ max_samples) }
     ensures { result ≡ shifted start (first_place (end - start) (λ i. not (possible_after k (get_or sums.now (start + i) (pos 0))))) }
 {
+    // Often there are none: a Feed within one sample reaches pixels of one kind alone.
+    if start == end {
+        return None;
+    }
     first_impossible(k, &sums[start..end]).map(|place| start + place)
 }
 

@@ -12,7 +12,7 @@ overflow_sub-wanted c = let s = sound_parts _ c.requires.0 in rw (c.wanted.ensur
 
 pub first_impossible_written-impossible-requires : goal.first_impossible_written-impossible-requires
 first_impossible_written-impossible-requires c =
-    let b = c.args.board in
+    let b = c.args.board.now in
     let s = sound_parts b c.requires.0 in
     let z = sides_of b s in
     let room = ltb-false _ _ (sym (wanted_left b _ _ c.requires.0 c.wanted.ensures) ∙ when_taken _ _ (sym c.in_ok-refuse_when.ensures)) in

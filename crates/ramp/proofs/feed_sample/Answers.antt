@@ -10,7 +10,7 @@ use Rattle.ramp.proofs.feed_sample.Goals as goal
 
 pub feed_part-requires-clause-sample_value : goal.feed_part-requires-clause-sample_value
 feed_part-requires-clause-sample_value c =
-    let s = c.args.settings in
+    let s = c.args.settings.now in
     let r = in_range_parts s c.requires.settings_value in record {
       number = c.requires.le_n;
       weight = rw (back w32 c.weight.result c.weight.type_inv ∙ c.weight.ensures) (weight_in_range_lem s r c.args.n);

@@ -35,7 +35,7 @@ feed_sample-requires-clause-sums_value c =
     let h = c.requires in
     let k = c.min-k.result in
     let e = here l.at (length a.sums.now) h.some (grind (arith, nat_tests)) in
-    rw l.invariant.4 (simp add-sub_cancel_left (turn_in_range a.settings a.fed a.readings.now a.sums.now h l.at k (omega arith) (omega arith) (omega arith) e.2))
+    rw l.invariant.4 (simp add-sub_cancel_left (turn_in_range a.settings.now a.fed a.readings.now a.sums.now h l.at k (omega arith) (omega arith) (omega arith) e.2))
 
 pub loop-rest-preserved : goal.loop-rest-preserved
 loop-rest-preserved c =
@@ -45,7 +45,7 @@ loop-rest-preserved c =
     let k = c.min-k.result in
     let p = here l.at (length a.sums.now) h.some (grind (arith, nat_tests)) in
     let e = simp (add-sub_cancel_left, add-one, l.invariant.4, c.split_at.ensures.front, l.invariant.2) at c.feed_sample.ensures in
-    let n = turn_next a.settings a.fed a.readings.now a.sums.now h l.at k (omega arith) (omega arith) (omega arith) in
+    let n = turn_next a.settings.now a.fed a.readings.now a.sums.now h l.at k (omega arith) (omega arith) (omega arith) in
     let d : l.at - a.fed + k ≡ l.at + k - a.fed = omega arith in (
       omega arith,
       omega (arith, c.split_at.ensures.back_len),

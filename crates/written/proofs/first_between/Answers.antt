@@ -1,5 +1,5 @@
 -- What the call finds in the part, said of the whole.
-use mathlib.Core.Bool.{not}
+use mathlib.Core.Bool.{Bool, not}
 use mathlib.Core.List.{List}
 use mathlib.Core.Path.{◌≡◌, ap, ◌∙◌}
 use Prim.Native.Nat.{ℕ, ◌+◌, ◌-◌, ◌^◌, ◌≤◌, ◌<◌}
@@ -8,7 +8,7 @@ use lib.IntN.{ℤ, pos}
 use lib.ListN.{length, get_or, take, drop}
 use Rattle.std.proofs.Common.{rules}
 use Rattle.laws.proofs.Parts.{part_length, part_at}
-use Rattle.std.specs.Prelude.{Option}
+use Rattle.std.specs.Prelude.{Option, None}
 use Rattle.checks.specs.Search.{first_place, shifted}
 use Rattle.checks.proofs.Search.{found_same, found_below}
 use Rattle.entries.specs.Possible.{possible_after}
@@ -35,3 +35,10 @@ returns c =
     let a = c.args in
     let moved : c.map.result ≡ shifted a.start c.first_impossible.result = search rules in
     moved ∙ ap (shifted a.start) (told a.sums.now a.start a.end a.k c.first_impossible.result (omega arith) (omega arith) c.first_impossible.ensures)
+
+none : (start n : ℕ) (test : ℕ → Bool) → n ≡ 0 → None ≡ shifted start (first_place n test)
+unfolding first_place
+none start n test e = rw e
+
+pub returns-then-start-end : goal.returns-then-start-end
+returns-then-start-end c = none c.args.start (c.args.end - c.args.start) _ (omega arith)

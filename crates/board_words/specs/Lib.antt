@@ -1,0 +1,4 @@
+-- A board in lent memory.
+pub mod Words
+pub mod Laws
+pub mod Known

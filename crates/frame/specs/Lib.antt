@@ -1,3 +1,0 @@
--- The answers about flags, as plain numbers.
-pub mod FlagAnswers
-pub mod Known

@@ -1,2 +1,0 @@
--- Chains that begin with Open, Update and Start.
-pub mod Stepping

@@ -1,2 +1,0 @@
--- Single steps of a frame.
-pub mod Steps
