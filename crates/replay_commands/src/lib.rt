@@ -1,15 +1,16 @@
 //! The commands of a script, each with its numbers.
 #![tactic(auto)]
 
-ghost use Rattle.std.specs.Prelude.{◌≤◌, IfOk, OkIff, pos, neg_ℤ, ◌≤ℤ◌};
+ghost use Rattle.std.specs.Prelude.{◌≡◌, ◌≤◌, IfOk, OkIff, true, pos, neg_ℤ, ◌≤ℤ◌};
+ghost use Rattle.board_words.specs.Words.{holds_board, held};
 ghost use Rattle.replay_items.specs.Items.{natural_of, entry_of};
 ghost use Rattle.replay_commands.specs.Ranges.{InRange};
 ghost use Rattle.replay_commands.specs.declared.Command.TheVariants.{Board as BoardCommand};
 
 use board::Board;
+use board_words::{held, holds_board};
 use places::Place;
 use replay_items::MOST;
-use settings::Settings;
 use sides::Sides;
 use std::num::TryFromIntError;
 
@@ -110,66 +111,20 @@ fn large(n: i64) -> Result<usize, Malformed>
     up_to(n, LARGEST)
 }
 
-// The settings of nine weights, a threshold, r and N.
-fn settings(list: &[i64]) -> Result<Settings, Malformed> {
-    let [
-        one,
-        two,
-        three,
-        four,
-        five,
-        six,
-        seven,
-        eight,
-        nine,
-        threshold,
-        truncation,
-        samples,
-    ] = list
-    else {
-        return Err(Malformed);
-    };
-    Ok(Settings {
-        weights: [
-            entry(*one)?,
-            entry(*two)?,
-            entry(*three)?,
-            entry(*four)?,
-            entry(*five)?,
-            entry(*six)?,
-            entry(*seven)?,
-            entry(*eight)?,
-            entry(*nine)?,
-        ],
-        threshold: u16::try_from(*threshold)?,
-        truncation: u16::try_from(*truncation)?,
-        samples: u16::try_from(*samples)?,
-    })
-}
-
-// The board of these numbers, sound or not.
+// The board that these numbers hold as the words of a board in lent memory, sound or not.
 fn board(list: &[i64]) -> Result<Board, Malformed>
-    ensures { IfOk result (λ board. InRange (BoardCommand board)) }
+    ensures board { OkIff result ((holds_board list.now ≡ true) × InRange (BoardCommand (held list.now))) (held list.now) }
+    ensures range { IfOk result (λ board. InRange (BoardCommand board)) }
 {
-    let [width, height, binned, running, fed, rest @ ..] = list else {
+    if !holds_board(list) {
         return Err(Malformed);
-    };
-    let Some((waiting, in_force)) = rest.split_at_checked(12) else {
-        return Err(Malformed);
-    };
-    let width = large(*width)?;
-    let height = large(*height)?;
-    Ok(Board {
-        sides: Sides {
-            width,
-            height,
-            binned: flag(*binned)?,
-        },
-        waiting: settings(waiting)?,
-        in_force: settings(in_force)?,
-        running: flag(*running)?,
-        fed: large(*fed)?,
-    })
+    }
+    let board = held(list);
+    if board.sides.width <= LARGEST && board.sides.height <= LARGEST && board.fed <= LARGEST {
+        Ok(board)
+    } else {
+        Err(Malformed)
+    }
 }
 
 // How many items there are, if it is as many as their count says, and each is in the range of a type.
