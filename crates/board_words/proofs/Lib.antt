@@ -1,5 +1,5 @@
 -- The known words, and the words of a board and what they hold.
 pub mod Known
-mod Calls
+pub mod Calls
 mod Fitting
 pub mod Laws

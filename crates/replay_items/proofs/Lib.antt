@@ -1,2 +1,0 @@
--- An array whose items are the answers of calls.
-mod Calls
