@@ -1,38 +1,66 @@
-//! The four programs must agree on every sum, word and refusal before anything is timed.
+//! All programs must agree on every sum, word and refusal before anything is timed.
 
 use crate::data::{self, Draws, KINDS};
-use crate::job::{Answer, Board, Job, Program, Sides};
+use crate::job::{Answer, Board, Job, Opened, Program, Sides};
 use crate::settings::Settings;
 
-/// What a call leaves: the answer and the buffers.
-type Left = (Answer, Vec<i32>, Vec<u16>);
-
-fn frame(program: &Program, job: &Job, readings: &[u16], sums: &[i32], words: usize) -> Left {
-    let (mut sums, mut words) = (sums.to_vec(), vec![7; words]);
-    let answer = (program.frame)(job, readings, &mut sums, &mut words);
-    (answer, sums, words)
+/// An entry of one kind.
+pub trait Entry: Copy + 'static {
+    /// What a buffer holds that nobody has written.
+    const UNWRITTEN: Self;
+    /// Two entries are the same if their bits are.
+    fn bits(self) -> u64;
+    /// An entry that is near a limit of what is possible after some samples, or impossible.
+    fn odd(draws: &mut Draws) -> Self;
 }
 
-fn feed(board: &mut dyn Board, readings: &[u16], sums: &[i32]) -> Left {
+impl Entry for i32 {
+    const UNWRITTEN: i32 = i32::MIN;
+
+    fn bits(self) -> u64 {
+        self as u64
+    }
+
+    fn odd(draws: &mut Draws) -> i32 {
+        let k = draws.below(10) as i32;
+        let beside = draws.below(3) as i32 - 1;
+        match draws.below(4) {
+            0 => 128 + 245_745 * k + beside,
+            1 => 128 - 245_745 * k + beside,
+            2 => 1_073_741_824 + k + beside,
+            _ => [i32::MIN, i32::MAX][draws.below(2) as usize],
+        }
+    }
+}
+
+/// What a call leaves: the answer and the buffers.
+type Left<E> = (Answer, Vec<E>, Vec<u16>);
+
+fn is_same<E: Entry>(a: &Left<E>, b: &Left<E>) -> bool {
+    let bits = |sums: &[E]| -> Vec<u64> { sums.iter().map(|entry| entry.bits()).collect() };
+    (a.0, bits(&a.1), &a.2) == (b.0, bits(&b.1), &b.2)
+}
+
+fn feed<E: Entry>(board: &mut dyn Board<E>, readings: &[u16], sums: &[E]) -> Left<E> {
     let mut sums = sums.to_vec();
     let answer = board.feed(readings, &mut sums);
     (answer, sums, vec![])
 }
 
-fn read_out(board: &mut dyn Board, sums: &[i32], words: usize) -> Left {
+fn read_out<E: Entry>(board: &mut dyn Board<E>, sums: &[E], words: usize) -> Left<E> {
     let mut words = vec![7; words];
     let answer = board.read_out(sums, &mut words);
     (answer, vec![], words)
 }
 
-pub struct Agreement {
-    programs: [Program; 4],
+pub struct Agreement<E: 'static> {
+    programs: &'static [Program<E>],
     pub calls: usize,
-    pub refused: [usize; 100],
+    refused: [usize; 100],
 }
 
-impl Agreement {
-    pub fn new(programs: [Program; 4]) -> Agreement {
+impl<E: Entry> Agreement<E> {
+    pub fn new(programs: &'static [Program<E>]) -> Agreement<E> {
         Agreement {
             programs,
             calls: 0,
@@ -40,20 +68,47 @@ impl Agreement {
         }
     }
 
+    /// Every job that is timed, and many lists.
+    pub fn check(&mut self, sides: &[usize], lists: usize) {
+        for &side in sides {
+            for binned in [false, true] {
+                for kind in KINDS {
+                    let job = data::job(side, binned);
+                    let readings = data::readings(kind, job.sides.pixels(), side as u64);
+                    let odd = 7 * job.sides.pixels() / 5 + 3;
+                    let parts = [readings.len(), job.sides.pixels(), side, odd];
+                    self.ramp(&job, &readings, &parts);
+                }
+            }
+        }
+        let mut draws = Draws::new(2026);
+        for _ in 0..lists {
+            self.list(&mut draws);
+        }
+    }
+
+    /// How many calls were refused with each number.
+    pub fn refused(&self) -> String {
+        let some = (0..100).filter(|&n| self.refused[n] > 0);
+        let each: Vec<String> = some.map(|n| format!("{n}: {}", self.refused[n])).collect();
+        each.join(", ")
+    }
+
     /// What the same call left of each program, in their order: all must have left what the first did.
-    fn same(&mut self, what: &str, lefts: impl Iterator<Item = Left>) -> Left {
+    fn same(&mut self, what: &str, lefts: impl Iterator<Item = Left<E>>) -> Left<E> {
         let mut lefts = self.programs.iter().zip(lefts);
-        let (_, left) = lefts.next().unwrap();
+        let (first, left) = lefts.next().unwrap();
         for (program, other) in lefts {
             assert!(
                 other.0 == left.0,
-                "{what}: {} answers {:?}, ours {:?}",
+                "{what}: {} answers {:?}, {} {:?}",
                 program.name,
                 other.0,
+                first.name,
                 left.0
             );
             assert!(
-                other == left,
+                is_same(&other, &left),
                 "{what}: {} leaves other buffers",
                 program.name
             );
@@ -65,24 +120,25 @@ impl Agreement {
         left
     }
 
-    /// A whole job in one call.
-    fn frame(&mut self, job: &Job, readings: &[u16], sums: &[i32], words: usize) -> Left {
-        let programs = self.programs;
-        let lefts = programs
-            .iter()
-            .map(|p| frame(p, job, readings, sums, words));
-        self.same("a frame", lefts)
+    /// A whole job in one call, where each program has such a call.
+    fn frame(&mut self, job: &Job, readings: &[u16], sums: &[E], words: usize) -> Option<Left<E>> {
+        let frames: Option<Vec<_>> = self.programs.iter().map(|p| p.frame).collect();
+        let lefts = frames?.into_iter().map(|frame| {
+            let (mut sums, mut words) = (sums.to_vec(), vec![7; words]);
+            let answer = frame(job, readings, &mut sums, &mut words);
+            (answer, sums, words)
+        });
+        Some(self.same("a frame", lefts))
     }
 
     /// A good job: in one call, and on a board that takes its ramp again and again, each time in parts of so many readings, and reads it out.
-    pub fn ramp(&mut self, job: &Job, readings: &[u16], parts: &[usize]) {
-        let garbage = vec![i32::MIN; job.sides.pixels()];
-        let whole = self.frame(job, readings, &garbage, job.sides.words());
-        assert!(whole.0.is_ok());
+    fn ramp(&mut self, job: &Job, readings: &[u16], parts: &[usize]) {
+        let unwritten = vec![E::UNWRITTEN; job.sides.pixels()];
+        let mut whole = self.frame(job, readings, &unwritten, job.sides.words());
         for program in self.programs {
             let mut board = program.begin(job);
             for &part in parts {
-                let (mut sums, mut words) = (garbage.clone(), vec![7; job.sides.words()]);
+                let (mut sums, mut words) = (unwritten.clone(), vec![7; job.sides.words()]);
                 for some in readings.chunks(part) {
                     let answer = board.feed(some, &mut sums);
                     assert!(answer.is_ok(), "{} refuses a part", program.name);
@@ -90,8 +146,11 @@ impl Agreement {
                 }
                 let answer = board.read_out(&sums, &mut words);
                 self.calls += 1;
+                assert!(answer.is_ok(), "{} refuses a frame", program.name);
+                let left = (answer, sums, words);
+                let whole = whole.get_or_insert_with(|| left.clone());
                 assert!(
-                    (answer, sums, words) == whole,
+                    is_same(&left, whole),
                     "{}: parts of {part} leave another frame",
                     program.name
                 );
@@ -102,7 +161,7 @@ impl Agreement {
 
     /// A list of calls on a small board, drawn at random, in most of which something is wrong in one or two places: the record, the readings, the sums, a
     /// length, or the call is out of turn.
-    pub fn list(&mut self, draws: &mut Draws) {
+    fn list(&mut self, draws: &mut Draws) {
         let job = small_job(draws);
         let readings = data::readings(
             kind(draws),
@@ -111,21 +170,22 @@ impl Agreement {
         );
         let samples = samples_of(&job.record);
         let some = damaged(draws, &readings[..samples * job.sides.pixels()]);
-        let sums = vec![77; mostly(draws, job.sides.pixels())];
+        let sums = vec![E::UNWRITTEN; mostly(draws, job.sides.pixels())];
         let words = mostly(draws, job.sides.words());
         let _ = self.frame(&job, &some, &sums, words);
 
-        let opened = self.programs.map(|p| (p.open)(job.sides));
-        let answers = opened.each_ref().map(|opened| match opened {
+        let programs = self.programs.iter();
+        let opened: Vec<Opened<E>> = programs.map(|p| (p.open)(job.sides)).collect();
+        let answers = opened.iter().map(|opened| match opened {
             Ok(_) => (Ok(()), vec![], vec![]),
             Err(refusal) => (Err(*refusal), vec![], vec![]),
         });
-        let _ = self.same("Open", answers.into_iter());
+        let _ = self.same("Open", answers);
         let Ok(boards) = opened.into_iter().collect() else {
             return;
         };
         let mut list = List {
-            sums: vec![77; job.sides.pixels()],
+            sums: vec![E::UNWRITTEN; job.sides.pixels()],
             job,
             agreement: self,
             boards,
@@ -141,28 +201,28 @@ impl Agreement {
 }
 
 /// A list of calls on a board of each program.
-struct List<'a> {
-    agreement: &'a mut Agreement,
+struct List<'a, E: 'static> {
+    agreement: &'a mut Agreement<E>,
     job: Job,
-    boards: Vec<Box<dyn Board>>,
+    boards: Vec<Box<dyn Board<E>>>,
     /// The readings of nine samples.
     readings: Vec<u16>,
     /// The sums as the last taken Feed left them.
-    sums: Vec<i32>,
+    sums: Vec<E>,
     waiting: Settings,
     /// How many samples the ramp that runs has; 0 if none does.
     samples: usize,
     fed: usize,
 }
 
-impl List<'_> {
-    fn same(&mut self, what: &str, call: impl Fn(&mut dyn Board) -> Left) -> Left {
+impl<E: Entry> List<'_, E> {
+    fn same(&mut self, what: &str, call: impl Fn(&mut dyn Board<E>) -> Left<E>) -> Left<E> {
         let lefts = self.boards.iter_mut().map(|board| call(&mut **board));
         self.agreement.same(what, lefts)
     }
 
     /// A call that is lent no buffer.
-    fn plain(&mut self, what: &str, call: impl Fn(&mut dyn Board) -> Answer) -> Answer {
+    fn plain(&mut self, what: &str, call: impl Fn(&mut dyn Board<E>) -> Answer) -> Answer {
         self.same(what, |board| (call(board), vec![], vec![])).0
     }
 
@@ -192,7 +252,7 @@ impl List<'_> {
         let end = self.readings.len().min(self.fed + count);
         let readings = damaged(draws, &self.readings[self.fed..end]);
         let mut sums = self.sums.clone();
-        sums.resize(mostly(draws, sums.len()), 77);
+        sums.resize(mostly(draws, sums.len()), E::UNWRITTEN);
         let left = self.same("Feed", |board| feed(board, &readings, &sums));
         if left.0.is_ok() {
             self.sums = left.1;
@@ -202,7 +262,7 @@ impl List<'_> {
 
     fn read_out(&mut self, draws: &mut Draws) {
         let mut sums = self.sums.clone();
-        sums.resize(mostly(draws, sums.len()), 77);
+        sums.resize(mostly(draws, sums.len()), E::UNWRITTEN);
         let words = mostly(draws, self.job.sides.words());
         let left = self.same("Read out", |board| read_out(board, &sums, words));
         if left.0.is_ok() {
@@ -210,11 +270,11 @@ impl List<'_> {
         }
     }
 
-    /// Two entries become others, which are near a limit of what is possible.
+    /// Two entries become odd ones.
     fn damage(&mut self, draws: &mut Draws) {
         for _ in 0..2 {
             let at = draws.below(self.sums.len() as u32) as usize;
-            self.sums[at] = entry_near_a_limit(draws);
+            self.sums[at] = E::odd(draws);
         }
     }
 
@@ -344,16 +404,4 @@ fn record(draws: &mut Draws) -> Vec<u8> {
         bytes.truncate(draws.below(4) as usize);
     }
     bytes
-}
-
-/// An entry near a limit of what is possible after some samples.
-fn entry_near_a_limit(draws: &mut Draws) -> i32 {
-    let k = draws.below(10) as i32;
-    let beside = draws.below(3) as i32 - 1;
-    match draws.below(4) {
-        0 => 128 + 245_745 * k + beside,
-        1 => 128 - 245_745 * k + beside,
-        2 => 1_073_741_824 + k + beside,
-        _ => [i32::MIN, i32::MAX][draws.below(2) as usize],
-    }
 }

@@ -1,15 +1,15 @@
 //! Another algorithm, which breaks two rules of ours: it sums a ramp that comes whole in blocks of pixels, all samples of a block at once, each reading
 //! cut into two halves, in buffers of its own. Its checks and its words are those of the best program.
 
-use crate::best::{check_feed, check_frame, sum_part, sum_up, write_words, Best};
+use crate::best::{check_feed, check_frame, sum_up, write_words, Best, Fast};
 use crate::board::{open, Kept, Way};
 use crate::job::{Answer, Job, Program};
 use crate::settings::{Settings, MARK};
 
-pub const PROGRAM: Program = Program {
+pub const PROGRAM: Program<i32> = Program {
     name: "blocks",
-    open: open::<Blocks>,
-    frame,
+    open: open::<Blocks, i32>,
+    frame: Some(frame),
 };
 
 /// Pixels that are summed together.
@@ -45,7 +45,7 @@ fn sum_planes<const N: usize>(s: &Settings, planes: [&[u16]; N], sums: &mut [i32
     }
     let done = BLOCK * all.len();
     for n in 0..N {
-        sum_part(&planes[n][done..], rest, n + 1, s.weights[n], s.threshold);
+        i32::sum_part(&planes[n][done..], rest, n + 1, s.weights[n], s.threshold);
     }
 }
 
@@ -63,7 +63,7 @@ fn sum_whole(s: &Settings, readings: &[u16], m: usize, p: usize, sums: &mut [i32
 
 struct Blocks;
 
-impl Way for Blocks {
+impl Way<i32> for Blocks {
     fn feed(board: &Kept, readings: &[u16], sums: &mut [i32]) -> Answer {
         check_feed(board, readings, sums)?;
         if readings.len() == board.wanted() {

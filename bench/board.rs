@@ -68,7 +68,7 @@ impl Kept {
     }
 
     /// What Feed and Read out check first.
-    pub fn check_ramp(&self, sums: &[i32]) -> Answer {
+    pub fn check_ramp<E>(&self, sums: &[E]) -> Answer {
         if !self.running {
             return refuse(10, 0);
         }
@@ -110,9 +110,9 @@ impl Kept {
 }
 
 /// What a hand-written program does in its own way, once a ramp runs and the sums are as long as they must be: its further checks, and what it writes.
-pub trait Way: 'static {
-    fn feed(board: &Kept, readings: &[u16], sums: &mut [i32]) -> Answer;
-    fn read_out(board: &Kept, sums: &[i32], words: &mut [u16]) -> Answer;
+pub trait Way<E>: 'static {
+    fn feed(board: &Kept, readings: &[u16], sums: &mut [E]) -> Answer;
+    fn read_out(board: &Kept, sums: &[E], words: &mut [u16]) -> Answer;
 }
 
 /// The board of a program of this way.
@@ -121,18 +121,21 @@ struct ByHand<W> {
     way: PhantomData<W>,
 }
 
-impl<W: Way> ByHand<W> {
-    fn boxed(kept: Kept) -> Box<dyn Board> {
+impl<W: 'static> ByHand<W> {
+    fn boxed<E>(kept: Kept) -> Box<dyn Board<E>>
+    where
+        W: Way<E>,
+    {
         let way = PhantomData::<W>;
         Box::new(ByHand { kept, way })
     }
 }
 
-pub fn open<W: Way>(sides: Sides) -> Opened {
+pub fn open<W: Way<E>, E>(sides: Sides) -> Opened<E> {
     Ok(ByHand::<W>::boxed(Kept::open(sides)?))
 }
 
-impl<W: Way> Board for ByHand<W> {
+impl<E, W: Way<E>> Board<E> for ByHand<W> {
     fn update(&mut self, record: &[u8]) -> Answer {
         self.kept.update(record)
     }
@@ -141,14 +144,14 @@ impl<W: Way> Board for ByHand<W> {
         self.kept.start()
     }
 
-    fn feed(&mut self, readings: &[u16], sums: &mut [i32]) -> Answer {
+    fn feed(&mut self, readings: &[u16], sums: &mut [E]) -> Answer {
         self.kept.check_ramp(sums)?;
         W::feed(&self.kept, readings, sums)?;
         self.kept.fed += readings.len();
         Ok(())
     }
 
-    fn read_out(&mut self, sums: &[i32], words: &mut [u16]) -> Answer {
+    fn read_out(&mut self, sums: &[E], words: &mut [u16]) -> Answer {
         self.kept.check_ramp(sums)?;
         W::read_out(&self.kept, sums, words)?;
         self.kept.end();
@@ -159,7 +162,7 @@ impl<W: Way> Board for ByHand<W> {
         self.kept.drop_ramp()
     }
 
-    fn copy(&self) -> Box<dyn Board> {
+    fn copy(&self) -> Box<dyn Board<E>> {
         ByHand::<W>::boxed(self.kept.clone())
     }
 }

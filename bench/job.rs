@@ -37,30 +37,34 @@ pub struct Job {
     pub record: Vec<u8>,
 }
 
-/// A board as a program keeps it. All programs are called through this trait and none is inlined, so that a call costs each of them the same.
-pub trait Board {
+/// A board as a program keeps it, whose sums are entries of one kind. All programs are called through this trait and none is inlined, so that a call
+/// costs each of them the same.
+pub trait Board<E> {
     fn update(&mut self, record: &[u8]) -> Answer;
     fn start(&mut self) -> Answer;
-    fn feed(&mut self, readings: &[u16], sums: &mut [i32]) -> Answer;
-    fn read_out(&mut self, sums: &[i32], words: &mut [u16]) -> Answer;
+    fn feed(&mut self, readings: &[u16], sums: &mut [E]) -> Answer;
+    fn read_out(&mut self, sums: &[E], words: &mut [u16]) -> Answer;
     fn drop_ramp(&mut self) -> Answer;
     /// A second board that stands where this one does.
-    fn copy(&self) -> Box<dyn Board>;
+    fn copy(&self) -> Box<dyn Board<E>>;
 }
 
-pub type Opened = Result<Box<dyn Board>, Refusal>;
+pub type Opened<E> = Result<Box<dyn Board<E>>, Refusal>;
 
-/// A program: it opens boards, and does the whole job in one call.
+/// The whole job in one call.
+pub type Frame<E> = fn(&Job, &[u16], &mut [E], &mut [u16]) -> Answer;
+
+/// A program: it opens boards, and does the whole job in one call where it can.
 #[derive(Clone, Copy)]
-pub struct Program {
+pub struct Program<E> {
     pub name: &'static str,
-    pub open: fn(Sides) -> Opened,
-    pub frame: fn(&Job, &[u16], &mut [i32], &mut [u16]) -> Answer,
+    pub open: fn(Sides) -> Opened<E>,
+    pub frame: Option<Frame<E>>,
 }
 
-impl Program {
+impl<E> Program<E> {
     /// The board of a job, which is good, with a ramp that has had no readings.
-    pub fn begin(&self, job: &Job) -> Box<dyn Board> {
+    pub fn begin(&self, job: &Job) -> Box<dyn Board<E>> {
         let mut board = (self.open)(job.sides).unwrap();
         board.update(&job.record).unwrap();
         board.start().unwrap();

@@ -3,13 +3,13 @@
 use crate::job::{Answer, Board, Job, Opened, Program, Sides};
 use crate::ramp_board;
 
-pub const PROGRAM: Program = Program {
+pub const PROGRAM: Program<i32> = Program {
     name: "ours",
     open,
-    frame,
+    frame: Some(frame),
 };
 
-impl Board for ramp_board::Board {
+impl Board<i32> for ramp_board::Board {
     fn update(&mut self, record: &[u8]) -> Answer {
         ramp_board::Board::update(self, record)
     }
@@ -30,12 +30,12 @@ impl Board for ramp_board::Board {
         ramp_board::Board::drop_ramp(self)
     }
 
-    fn copy(&self) -> Box<dyn Board> {
+    fn copy(&self) -> Box<dyn Board<i32>> {
         Box::new(self.clone())
     }
 }
 
-fn open(sides: Sides) -> Opened {
+fn open(sides: Sides) -> Opened<i32> {
     let board = ramp_board::Board::open(sides.width, sides.height, sides.binned)?;
     Ok(Box::new(board))
 }

@@ -1,7 +1,8 @@
-//! What is printed: the ratios, how flat our cost is, and what is wanted of both.
+//! What is printed: the ratios, how flat our cost is, and what is wanted.
 
+use crate::calls::{Cell, Row};
 use crate::data::Kind;
-use crate::rows::{Cell, Ratio, Row};
+use crate::timing::Ratio;
 
 fn binning(c: &Cell) -> &'static str {
     if c.row.binnings().len() == 1 {
@@ -17,20 +18,26 @@ fn named(c: &Cell) -> String {
     format!("{} | {} | {}", c.row.name(), binning(c), c.kind.name())
 }
 
-fn shown(r: Ratio) -> String {
+fn shown(r: &Ratio) -> String {
     format!("{:.2} ({:.2})", r.median, r.least)
 }
 
-pub fn head() {
+/// The head, with what ours is compared to.
+pub fn head(others: &[&str]) {
+    let ratios: Vec<String> = others
+        .iter()
+        .map(|other| format!("ours / {other}"))
+        .collect();
     println!(
-        "| row | binned | readings | side | ours / straightforward | ours / best | ours / blocks | ours / limit |"
+        "| row | binned | readings | side | {} |",
+        ratios.join(" | ")
     );
-    println!("|---|---|---|---|---|---|---|---|");
+    println!("|---|---|---|---|{}", "---|".repeat(others.len()));
 }
 
 pub fn line(c: &Cell) {
-    let ratios = c.ratios.map(shown).join(" | ");
-    println!("| {} | {} | {ratios} |", named(c), c.side);
+    let ratios: Vec<String> = c.ratios.iter().map(shown).collect();
+    println!("| {} | {} | {} |", named(c), c.side, ratios.join(" | "));
 }
 
 /// The cost of a cell as a part of that of another, which is the same but for its side or kind.
@@ -52,67 +59,62 @@ pub fn flatness(cells: &[Cell]) {
 }
 
 /// What is wanted, beside the least and the largest that was measured at sides 128 to 1,024.
-pub fn targets(cells: &[Cell]) {
-    println!("\n| wanted, at sides 128 to 1,024 | | measured |");
-    println!("|---|---|---|");
-    let show = |what: &str, wanted: &str, values: Vec<f64>| {
+pub struct Wanted<'a> {
+    cells: &'a [Cell],
+}
+
+impl<'a> Wanted<'a> {
+    pub fn of(cells: &'a [Cell]) -> Wanted<'a> {
+        println!("\n| wanted, at sides 128 to 1,024 | | measured |");
+        println!("|---|---|---|");
+        Wanted { cells }
+    }
+
+    fn pick(&self, row: Row, fits: impl Fn(&Cell) -> bool) -> impl Iterator<Item = &'a Cell> {
+        let large = self
+            .cells
+            .iter()
+            .filter(move |c| c.side >= 128 && c.row == row);
+        large.filter(move |c| fits(c))
+    }
+
+    fn show(&self, what: &str, wanted: &str, values: impl Iterator<Item = f64>) {
+        let values: Vec<f64> = values.collect();
         let least = values.iter().copied().fold(f64::INFINITY, f64::min);
         let largest = values.iter().copied().fold(0.0, f64::max);
         println!("| {what} | {wanted} | {least:.2} to {largest:.2} |");
-    };
-    let pick = |row: Row, fits: &dyn Fn(&Cell) -> bool| -> Vec<&Cell> {
-        let large = cells.iter().filter(|c| c.side >= 128 && c.row == row);
-        large.filter(|c| fits(c)).collect()
-    };
-    let ratios = |of: usize, row: Row, fits: &dyn Fn(&Cell) -> bool| -> Vec<f64> {
-        let some = pick(row, fits).into_iter();
-        some.map(|c| c.ratios[of].median).collect()
-    };
-    show(
-        "Feed of a whole ramp, 1 % saturate, ours / straightforward",
-        "0.55 at most, later 0.45",
-        ratios(0, Row::FeedWhole, &|c| c.kind == Kind::FewSaturating),
-    );
-    show(
-        "Feed of a whole ramp, most saturate, ours / straightforward",
-        "0.25 at most",
-        ratios(0, Row::FeedWhole, &|c| c.kind == Kind::MostSaturating),
-    );
-    for (binned, what) in [(false, "Read out, unbinned"), (true, "Read out, binned")] {
-        show(
-            &format!("{what}, ours / straightforward"),
-            "0.35 at most",
-            ratios(0, Row::ReadOut, &|c| c.binned == binned),
-        );
     }
-    for (side, wanted) in [
-        (128, "1.15 at most"),
-        (512, "1.05 at most"),
-        (1024, "1.05 at most"),
-    ] {
-        show(
-            &format!("Feed per row at side {side}, ours / best"),
+
+    /// The ratios to one of the other programs.
+    pub fn ratios(
+        &self,
+        what: &str,
+        wanted: &str,
+        to: usize,
+        row: Row,
+        fits: impl Fn(&Cell) -> bool,
+    ) {
+        let some = self.pick(row, fits).map(|c| c.ratios[to].median);
+        self.show(what, wanted, some);
+    }
+
+    /// Our cost of a Feed of a whole ramp, as a part of that of the first kind of readings.
+    pub fn cost_by_kind(&self, wanted: &str) {
+        let some = self.pick(Row::FeedWhole, |_| true);
+        self.show(
+            "Feed of a whole ramp, cost to the first kind of readings",
             wanted,
-            ratios(1, Row::FeedRows, &|c| c.side == side),
+            some.map(|c| part(self.cells, c, c.side, Kind::FewSaturating)),
         );
     }
-    show(
-        "whole job, ours / best",
-        "1.05 at most",
-        ratios(1, Row::WholeJob, &|_| true),
-    );
-    let feeds = pick(Row::FeedWhole, &|_| true);
-    show(
-        "Feed of a whole ramp, cost to the first kind of readings",
-        "0.85 to 1.15",
-        feeds
-            .iter()
-            .map(|c| part(cells, c, c.side, Kind::FewSaturating))
-            .collect(),
-    );
-    show(
-        "Feed of a whole ramp, cost per reading to side 128",
-        "0.75 to 1.25",
-        feeds.iter().map(|c| part(cells, c, 128, c.kind)).collect(),
-    );
+
+    /// And as a part of that at side 128.
+    pub fn cost_by_side(&self, wanted: &str) {
+        let some = self.pick(Row::FeedWhole, |_| true);
+        self.show(
+            "Feed of a whole ramp, cost per reading to side 128",
+            wanted,
+            some.map(|c| part(self.cells, c, 128, c.kind)),
+        );
+    }
 }

@@ -86,6 +86,11 @@ impl Times {
         }
     }
 
+    /// The first call's to each of the others.
+    pub fn ratios(&self) -> Vec<Ratio> {
+        (1..self.0.len()).map(|b| self.ratio(0, b)).collect()
+    }
+
     pub fn least(&self, a: usize) -> f64 {
         self.0[a].iter().copied().fold(f64::INFINITY, f64::min)
     }

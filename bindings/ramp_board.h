@@ -36,6 +36,10 @@
    ramp to its read-out the same sums come with the board, unchanged: who copies a board in a ramp copies the sums too. After k samples an entry is
    possible if it lies from 128 - 245,745 x k to 128 + 245,745 x k, or is the mark of one of them; one that isn't is refused (14), and no other
    change is noticed.
+   The entries are numbers of 32 bits, or else 64-bit floats, for which ramp_feed_floats and ramp_read_out_floats stand beside ramp_feed and
+   ramp_read_out. Each float that is stored is exactly the whole number that the other kind would hold, marks too, and the words of the frame are the
+   same. No number, an infinity, a fraction, minus zero and whatever is too large aren't possible. A ramp keeps to one kind from its first feed to
+   its read-out; a board has no note of the kind, and one that changes is noticed no more than any other change.
 
    THE WORDS of a frame stand row by row: one for each pixel or, of a binned board, one for each square of four, in half as many rows and columns.
    ramp_read_word says what a word means. */
@@ -89,6 +93,17 @@ uint8_t ramp_feed(ramp_board *board, size_t board_words, const uint16_t *reading
    from 0. */
 uint8_t ramp_read_out(ramp_board *board, size_t board_words, const int32_t *sums, size_t sum_count,
                       uint16_t *words, size_t word_count, size_t *place);
+
+/* ramp_feed with the sums in floats: all that is said there holds. An entry that gets no reading stays as it was, bit for bit, and before sample 1 it
+   may be anything, also no number.
+   Refused as ramp_feed, with 99, 10, 11, 12, 13, 14. */
+uint8_t ramp_feed_floats(ramp_board *board, size_t board_words, const uint16_t *readings, size_t reading_count,
+                         double *sums, size_t sum_count, size_t *place);
+
+/* ramp_read_out with the sums in floats: all that is said there holds.
+   Refused as ramp_read_out, with 99, 10, 11, 15, 16, 14. */
+uint8_t ramp_read_out_floats(ramp_board *board, size_t board_words, const double *sums, size_t sum_count,
+                             uint16_t *words, size_t word_count, size_t *place);
 
 /* Ends the ramp without a frame. The settings stay. Writes *board.
    Refused with 99: no board. 10: no ramp is running. */

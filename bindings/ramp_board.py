@@ -20,6 +20,15 @@ True
 >>> ramp_board.read_word(2, words[1])                  # r is 2
 Ordinary(low=16508.0, high=16512.0)
 
+The sums of a ramp may be 64-bit floats instead; each is then exactly the same whole number, and the words are the same:
+
+>>> floats = array("d", [0, 0])
+>>> board.start()
+>>> board.feed_floats(array("H", [0, 16383]), floats)
+>>> board.read_out_floats(floats, words)
+>>> floats, words
+(array('d', [128.0, 16511.0]), array('H', [32, 4127]))
+
 A frame in one call, the flags of a frame, a ramp that is dropped, and a board that is kept and brought back:
 
 >>> ramp_board.frame(2, 1, False, bytes([1, 10, 1, 255, 63, 1]), array("H", [0, 16383]), sums, words)
@@ -39,11 +48,11 @@ A call that is refused raises `Refused`, which has the number and the place of d
 Traceback (most recent call last):
 ramp_board.Refused: refused with 10: no ramp is running
 
-**Buffers.** A record, readings, sums and words may be anything with the buffer protocol (bytes, bytearray, array.array, memoryview, a ctypes array,
-a numpy array), and are used where they lie, without a copy; one that is only read may be read-only. The items of a record are bytes, those of
-readings and words unsigned with 16 bits (`array("H")`, numpy's `uint16`), those of sums signed with 32 bits (`array("i")`, numpy's `int32`), in the
-machine's byte order. Any number of dimensions counts as its items in order, the last dimension fastest, so a frame may be an array of rows. Plain
-bytes become readings by `memoryview(data).cast("H")`.
+**Buffers.** A record, readings, sums and words may be anything with the buffer protocol (bytes, bytearray, array.array, memoryview, a ctypes array, a
+numpy array), and are used where they lie, without a copy; one that is only read may be read-only. The items of a record are bytes, those of readings
+and words unsigned with 16 bits (`array("H")`, numpy's `uint16`), those of sums signed with 32 bits (`array("i")`, numpy's `int32`) or, where they are
+floats, floats with 64 bits (`array("d")`, numpy's `float64`), in the machine's byte order. Any number of dimensions counts as its items in order, the
+last dimension fastest, so a frame may be an array of rows. Plain bytes become readings by `memoryview(data).cast("H")`.
 
 **Python's own errors** come before the call and change nothing. TypeError: an argument that must be a buffer is none, is a single item without a
 dimension, has other items, or is read-only where it is written; a number isn't whole; `binned` isn't True or False; a corner isn't a row and a
@@ -277,7 +286,7 @@ class Board:
         """
         with _Buffers() as lent:
             some = lent.read("readings", readings, _UNSIGNED_16)
-            _call(_library.ramp_feed, self._words, _WORDS, *some, *lent.written("sums", sums, _SIGNED_32))
+            _call(_library.ramp_feed, self._words, _WORDS, *some, *lent.written("sums", sums, _SIGNED_32, (_FLOAT_64, "feed_floats")))
 
     def read_out(self, sums: Any, words: Any) -> None:
         """Write the frame of a ramp whose readings are all fed into the words, and end the ramp. The sums aren't changed.
@@ -301,8 +310,49 @@ class Board:
         [Ordinary(low=128.0, high=132.0), Saturated(sample=9)]
         """
         with _Buffers() as lent:
-            kept = lent.read("sums", sums, _SIGNED_32)
+            kept = lent.read("sums", sums, _SIGNED_32, (_FLOAT_64, "read_out_floats"))
             _call(_library.ramp_read_out, self._words, _WORDS, *kept, *lent.written("words", words, _UNSIGNED_16))
+
+    def feed_floats(self, readings: Any, sums: Any) -> None:
+        """`feed` for a ramp that is summed in 64-bit floats: each is exactly the whole number that `feed` would store.
+
+        A ramp keeps to one kind of sums, from its first feed to its read-out. An entry that gets no reading stays as it was, bit for bit, and before
+        the first sample it may be anything.
+
+        Refused as `feed`, with 99, 10, 11, 12, 13, 14. An entry isn't possible either if it is no number, infinite, a fraction, minus zero, or too
+        large.
+
+        >>> from array import array
+        >>> board, sums = Board(2, 1), array("d", [float("nan"), 0.5])
+        >>> board.start()
+        >>> board.feed_floats(array("H", [100, 200, 300]), sums)
+        >>> sums                                       # 128 - 4 x 100 - 3 x 300, 128 - 4 x 200
+        array('d', [-1172.0, -672.0])
+        >>> sums[1] = -671.5
+        >>> board.feed_floats(array("H", [400]), sums)
+        Traceback (most recent call last):
+        ramp_board.Refused: refused with 14: an entry of the sums isn't possible, the first at index 1
+        """
+        with _Buffers() as lent:
+            some = lent.read("readings", readings, _UNSIGNED_16)
+            _call(_library.ramp_feed_floats, self._words, _WORDS, *some, *lent.written("sums", sums, _FLOAT_64, (_SIGNED_32, "feed")))
+
+    def read_out_floats(self, sums: Any, words: Any) -> None:
+        """`read_out` for a ramp that was summed in 64-bit floats: the words are those of the whole numbers.
+
+        Refused as `read_out`, with 99, 10, 11, 15, 16, 14.
+
+        >>> from array import array
+        >>> board, sums, words = Board(2, 1), array("d", [0, 0]), array("H", [0, 0])
+        >>> board.start()
+        >>> board.feed_floats(array("H", [1000, 1000] * 8 + [1000, 14000]), sums)
+        >>> board.read_out_floats(sums, words)
+        >>> [read_word(2, word) for word in words]
+        [Ordinary(low=128.0, high=132.0), Saturated(sample=9)]
+        """
+        with _Buffers() as lent:
+            kept = lent.read("sums", sums, _FLOAT_64, (_SIGNED_32, "read_out"))
+            _call(_library.ramp_read_out_floats, self._words, _WORDS, *kept, *lent.written("words", words, _UNSIGNED_16))
 
     def drop(self) -> None:
         """End the ramp without a frame. The settings stay as they are.
@@ -487,7 +537,17 @@ class _Item(NamedTuple):
 _BYTE = _Item(("B", "c"), 1, "bytes")
 _UNSIGNED_16 = _Item(("H",), 2, "unsigned with 16 bits")
 _SIGNED_32 = _Item(("i", "l"), 4, "signed with 32 bits")
+_FLOAT_64 = _Item(("d",), 8, "floats with 64 bits")
+# Items for which another call stands, and its name.
+_Other = Optional[tuple[_Item, str]]
 _NATIVE = ("@", "=", "<" if sys.byteorder == "little" else ">")
+
+
+def _holds(view: memoryview, item: _Item) -> bool:
+    """Whether these are the items of a view."""
+    code = view.format[1:] if view.format.startswith(_NATIVE) else view.format
+    # In Python 3.9 the items of an empty ctypes array have no size.
+    return code in item.codes and view.itemsize in (item.size, 0)
 
 
 class _PyBuffer(ctypes.Structure):
@@ -548,25 +608,25 @@ class _Buffers:
         for view in self.views:
             view.release()
 
-    def read(self, name: str, value: Any, item: _Item) -> tuple[int, int]:
+    def read(self, name: str, value: Any, item: _Item, other: _Other = None) -> tuple[int, int]:
         """The address and the number of items of a buffer that the call only reads."""
-        return self.take(name, value, item, written=False)
+        return self.take(name, value, item, other, written=False)
 
-    def written(self, name: str, value: Any, item: _Item) -> tuple[int, int]:
+    def written(self, name: str, value: Any, item: _Item, other: _Other = None) -> tuple[int, int]:
         """The address and the number of items of a buffer that the call writes."""
-        return self.take(name, value, item, written=True)
+        return self.take(name, value, item, other, written=True)
 
-    def take(self, name: str, value: Any, item: _Item, written: bool) -> tuple[int, int]:
+    def take(self, name: str, value: Any, item: _Item, other: _Other, written: bool) -> tuple[int, int]:
         """The address and the number of items of a buffer, after all checks."""
         try:
             view = memoryview(value)
         except (TypeError, ValueError, BufferError) as error:
             raise TypeError(f"{name} must be a buffer whose items are {item.text}, got {_kind(value)}: {error}") from None
         self.views.append(view)
-        code = view.format[1:] if view.format.startswith(_NATIVE) else view.format
-        # In Python 3.9 the items of an empty ctypes array have no size.
-        if code not in item.codes or view.itemsize not in (item.size, 0):
-            raise TypeError(f"the items of {name} must be {item.text}, got {_kind(value)} of format {view.format!r} with {8 * view.itemsize} bits")
+        if not _holds(view, item):
+            found = f"{_kind(value)} of format {view.format!r} with {8 * view.itemsize} bits"
+            hint = f": {other[1]} takes these" if other and _holds(view, other[0]) else ""
+            raise TypeError(f"the items of {name} must be {item.text}, got {found}{hint}")
         if written and view.readonly:
             raise TypeError(f"{name} must be writable, got read-only {_kind(value)}")
         if view.ndim == 0:
@@ -598,6 +658,8 @@ _FUNCTIONS = {
     "ramp_start": _BUFFER,
     "ramp_feed": (*_BUFFER, *_BUFFER, *_BUFFER),
     "ramp_read_out": (*_BUFFER, *_BUFFER, *_BUFFER),
+    "ramp_feed_floats": (*_BUFFER, *_BUFFER, *_BUFFER),
+    "ramp_read_out_floats": (*_BUFFER, *_BUFFER, *_BUFFER),
     "ramp_drop": _BUFFER,
     "ramp_covered": (*_BUFFER, _pointer),
     "ramp_read_word": (ctypes.c_uint16, ctypes.c_uint16, *(_pointer,) * 4),

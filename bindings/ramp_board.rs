@@ -5,8 +5,8 @@
 //! compiled with `-L target/bindings -l static=ramp_board`. It needs Rust 1.82 or newer, and the standard library alone.
 //!
 //! A board is opened, updated with records, starts a ramp, is fed its readings in as many parts as the program likes, and reads the frame out. The
-//! program holds the sums, one entry for each pixel, and hands them from call to call; and the words of the frame, row by row, one for each pixel or,
-//! binned, for each square of four, in half as many rows and columns.
+//! program holds the sums, one entry for each pixel, as numbers of 32 bits or as 64-bit floats, and hands them from call to call; and the words of the
+//! frame, row by row, one for each pixel or, binned, for each square of four, in half as many rows and columns.
 //!
 //! Every call that may be refused answers with a `Result`. After a refusal the board and all slices are as they were. Each call has its refusals
 //! below, in the order in which it checks; docs/REFUSALS.md has the table of all.
@@ -159,6 +159,58 @@ impl Board {
         // SAFETY: each pointer, with its length, is that of a live borrow, exclusive where the call writes.
         answered(|place| unsafe {
             ramp_read_out(
+                self.words.as_mut_ptr(),
+                WORDS,
+                sums.as_ptr(),
+                sums.len(),
+                words.as_mut_ptr(),
+                words.len(),
+                place,
+            )
+        })
+    }
+
+    /// `feed` for a ramp that is summed in 64-bit floats: each is exactly the whole number that `feed` would store, marks too. A ramp keeps to one kind
+    /// of sums, from its first Feed to Read out. An entry that gets no reading stays as it was, bit for bit.
+    ///
+    /// Refused as `feed`, with 99, 10, 11, 12, 13, 14. An entry isn't possible either if it is no number, infinite, a fraction, minus zero, or too large.
+    ///
+    /// ```
+    /// # use ramp_board::{Board, Refusal};
+    /// # fn main() -> Result<(), Refusal> {
+    /// let (mut sums, mut words) = ([f64::NAN; 2], [0; 2]);
+    /// let mut board = Board::open(2, 1, false)?;
+    /// board.update(&[0x01, 0x0A, 0x01, 0xFF, 0x3F, 0x01])?; // weight 1 is 1, the threshold 16,383, N is 1
+    /// board.start()?;
+    /// board.feed_floats(&[0, 16_383], &mut sums)?;
+    /// assert_eq!(sums, [128.0, 16_511.0]);
+    /// board.read_out_floats(&sums, &mut words)?;
+    /// assert_eq!(words, [32, 4127]);
+    /// # Ok(())
+    /// # }
+    /// ```
+    pub fn feed_floats(&mut self, readings: &[u16], sums: &mut [f64]) -> Result<(), Refusal> {
+        // SAFETY: each pointer, with its length, is that of a live borrow, exclusive where the call writes.
+        answered(|place| unsafe {
+            ramp_feed_floats(
+                self.words.as_mut_ptr(),
+                WORDS,
+                readings.as_ptr(),
+                readings.len(),
+                sums.as_mut_ptr(),
+                sums.len(),
+                place,
+            )
+        })
+    }
+
+    /// `read_out` for a ramp that was summed in 64-bit floats: the words are those of the whole numbers.
+    ///
+    /// Refused as `read_out`, with 99, 10, 11, 15, 16, 14.
+    pub fn read_out_floats(&mut self, sums: &[f64], words: &mut [u16]) -> Result<(), Refusal> {
+        // SAFETY: each pointer, with its length, is that of a live borrow, exclusive where the call writes.
+        answered(|place| unsafe {
+            ramp_read_out_floats(
                 self.words.as_mut_ptr(),
                 WORDS,
                 sums.as_ptr(),
@@ -351,6 +403,26 @@ unsafe extern "C" {
         board: *mut i64,
         board_words: usize,
         sums: *const i32,
+        sum_count: usize,
+        words: *mut u16,
+        word_count: usize,
+        place: *mut usize,
+    ) -> u8;
+
+    fn ramp_feed_floats(
+        board: *mut i64,
+        board_words: usize,
+        readings: *const u16,
+        reading_count: usize,
+        sums: *mut f64,
+        sum_count: usize,
+        place: *mut usize,
+    ) -> u8;
+
+    fn ramp_read_out_floats(
+        board: *mut i64,
+        board_words: usize,
+        sums: *const f64,
         sum_count: usize,
         words: *mut u16,
         word_count: usize,

@@ -14,7 +14,8 @@ from typing import Iterator, NamedTuple
 # exported.py makes the second program's folder known.
 from exported import Exported, difference
 
-from draws import Draws, draw_board, encode_record
+from draws import NOT_NUMBERS, Draws, draw_board, encode_record
+from floats import pattern_of
 from lent_board import PARTS, WORDS, Call, board_in, made
 from ramp import MARK, Board
 from replay import board_numbers
@@ -108,6 +109,15 @@ def calls(words: list[int]) -> Iterator[Call]:
         yield Call("read_out", (sums, out))
     yield Call("read_out", (impossible, output))
     yield Call("read_out", (sums[1:], output))
+    floats = [pattern_of(float(entry)) for entry in sums]
+    no_numbers = [*floats[:fed], NOT_NUMBERS[3], *floats[fed + 1 :]]
+    for readings in ([], [500], [500] * wanted):
+        yield Call("feed_floats", (readings, floats))
+    yield Call("feed_floats", ([500], no_numbers))
+    yield Call("feed_floats", ([500], [*floats, 1]))
+    yield Call("read_out_floats", (floats, output))
+    yield Call("read_out_floats", (no_numbers, output))
+    yield Call("read_out_floats", (floats[1:], output))
 
 
 def main() -> int:

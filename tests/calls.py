@@ -7,6 +7,7 @@ program says, and nothing may be written beside a buffer. Prints how many lists 
 
 from __future__ import annotations
 
+import math
 import sys
 from collections import Counter
 from typing import Optional
@@ -14,7 +15,8 @@ from typing import Optional
 # exported.py makes the second program's folder known.
 from exported import BEFORE, Exported, difference
 
-from draws import Draws, draw_bad_record, draw_record
+from draws import Draws, draw_bad_record, draw_pattern, draw_record
+from floats import float_of, pattern_of
 from lent_board import WORDS, Call, Left, board_in, made
 from make_replay import REFUSED
 from ramp import MARK, MAX_PRODUCT, MAX_READING, PEDESTAL, Board
@@ -38,13 +40,20 @@ def any_entry(draws: Draws) -> int:
     return draws.choose((*edges, MARK, MARK + k, MARK + 10, -1, 2**31 - 1, -(2**31)))
 
 
+def any_float(draws: Draws) -> int:
+    """The pattern of any content of an entry of the sums in floats."""
+    return pattern_of(float(any_entry(draws))) if draws.chance(50) else draw_pattern(draws)
+
+
 class Drawn:
-    """A list of calls in the making: what the board's buffer and the sums hold before the next one."""
+    """A list of calls in the making: what the board's buffer and the sums hold before the next one, those in floats as patterns."""
 
     def __init__(self, draws: Draws) -> None:
         self.draws = draws
         self.words = [any_word(draws) for _ in range(WORDS)]
         self.sums: list[int] = []
+        self.floats: list[int] = []
+        self.in_floats = False
 
     def board(self) -> Optional[Board]:
         """The board in the buffer, if one was opened."""
@@ -62,10 +71,12 @@ class Drawn:
             return self.open()
         if name == "update":
             return Call(name, (self.record(),))
-        if name == "feed":
-            return Call(name, (self.readings(board), self.sums_now()))
-        if name == "read_out":
-            return Call(name, (self.sums_now(), self.output(board)))
+        if name in ("feed", "read_out"):
+            if self.draws.chance(5):
+                self.change_engine()
+            sums = self.sums_now()
+            buffers = (self.readings(board), sums) if name == "feed" else (sums, self.output(board))
+            return Call(f"{name}_floats" if self.in_floats else name, buffers)
         return Call(name, ([BEFORE],) if name == "covered" else ())
 
     def open(self) -> Call:
@@ -97,13 +108,23 @@ class Drawn:
 
     def sums_now(self) -> list[int]:
         """The sums, now and then damaged or of another length."""
-        draws, sums = self.draws, list(self.sums)
+        draws, sums = self.draws, list(self.floats if self.in_floats else self.sums)
         if sums and draws.chance(20):
             for _ in range(draws.between(1, 2)):
-                sums[draws.below(len(sums))] = any_entry(draws)
+                sums[draws.below(len(sums))] = any_float(draws) if self.in_floats else any_entry(draws)
         if draws.chance(5):
             return draws.choose((sums[1:], [*sums, 0], []))
         return sums
+
+    def change_engine(self) -> None:
+        """Go on in the other engine, mostly with what the sums in this one are there."""
+        if self.draws.chance(70):
+            if self.in_floats:
+                found = [float_of(pattern) for pattern in self.floats]
+                self.sums = [int(entry) if abs(entry) < 2**31 else MARK for entry in found]
+            else:
+                self.floats = [pattern_of(float(entry)) for entry in self.sums]
+        self.in_floats = not self.in_floats
 
     def output(self, board: Board) -> list[int]:
         """Words to write to, now and then too many or too few."""
@@ -118,9 +139,14 @@ class Drawn:
             return
         if call.name == "feed":
             self.sums = left.buffers[1]
+        if call.name == "feed_floats":
+            self.floats = left.buffers[1]
+        if call.name == "start":
+            self.in_floats = self.draws.chance(50)
         if call.name == "open":
             width, height, _ = call.sides
             self.sums = [any_entry(self.draws) for _ in range(width * height)]
+            self.floats = [any_float(self.draws) for _ in range(width * height)]
 
 
 def agrees(exported: Exported, draws: Draws, seen: Counter[str]) -> bool:
@@ -135,6 +161,9 @@ def agrees(exported: Exported, draws: Draws, seen: Counter[str]) -> bool:
         seen["calls"] += 1
         seen["refused"] += expected.number > 0
         seen["frames"] += (call.name, expected.number) == ("read_out", 0)
+        seen["frames of floats"] += (call.name, expected.number) == ("read_out_floats", 0)
+        if (call.name, expected.number) == ("feed_floats", 0):
+            seen["left alone"] += sum(math.isnan(float_of(pattern)) for pattern in expected.buffers[1])
         drawn.after(call, expected)
     return True
 
@@ -143,9 +172,11 @@ def main() -> int:
     exported, draws, count = Exported(sys.argv[1]), Draws(int(sys.argv[2])), int(sys.argv[3])
     seen: Counter[str] = Counter()
     agreed = sum(agrees(exported, draws, seen) for _ in range(count))
-    print(f"{agreed} of {count} lists of calls agree, with {seen['calls']} calls, {seen['refused']} of them refused, and {seen['frames']} frames")
-    if seen["frames"] == 0:
-        print("no frame was read out: more lists are needed")
+    print(f"{agreed} of {count} lists of calls agree, with {seen['calls']} calls, {seen['refused']} of them refused")
+    kinds = ("frames", "frames of floats", "left alone")
+    print(f"{seen['frames']} frames were read out and {seen['frames of floats']} of floats, and {seen['left alone']} floats that are no number were left alone")
+    if not all(seen[kind] for kind in kinds):
+        print("each of these must occur: more lists are needed")
         return True
     return agreed != count
 

@@ -12,6 +12,7 @@ sys.path.insert(0, os.path.join(os.path.dirname(os.path.abspath(__file__)), "sec
 from lent_board import Call, Left  # noqa: E402
 
 SIZE, BYTE, SHORT, ENTRY, WORD = ctypes.c_size_t, ctypes.c_uint8, ctypes.c_uint16, ctypes.c_int32, ctypes.c_int64
+PATTERN = ctypes.c_uint64  # the bits of a double
 GUARDS = 8  # items on each side
 OUTSIDE = -1  # in place of an answer's number: the call wrote outside of a buffer
 BEFORE = 77  # what the place for an answer holds before the call
@@ -23,6 +24,8 @@ ITEMS: dict[str, tuple[type, ...]] = {
     "start": (),
     "feed": (SHORT, ENTRY),
     "read_out": (ENTRY, SHORT),
+    "feed_floats": (SHORT, PATTERN),
+    "read_out_floats": (PATTERN, SHORT),
     "drop": (),
     "covered": (BYTE,),
 }

@@ -31,9 +31,9 @@ def random_scripts(seed: int, count: int) -> Iterator[Script]:
 
 
 def scripts(seed: int, count: int) -> list[Script]:
-    """The well-formed scripts; every tenth of the random ones isn't."""
+    """The well-formed scripts; of the random ones, one after each round of kinds isn't."""
     some = [*stored("replay"), ("the example", (EXAMPLE / "stdin").read_bytes(), (EXAMPLE / "stdout").read_bytes())]
-    some += random_scripts(seed, count + count // 9)
+    some += random_scripts(seed, count + count // len(make_replay.KINDS))
     return [script for script in some if not script[2].startswith(NOT_PLAYED)]
 
 

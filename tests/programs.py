@@ -1,7 +1,7 @@
 """Compares a program with its second program: programs.py NAME PROGRAM SEED COUNT.
 
 NAME is jig or replay, and PROGRAM the compiled one. It must print exactly what the second program prints: on the stored inputs; on every
-beginning of an example; on each malformed line alone; on a megabyte of noise of two kinds; and on COUNT random inputs, good and bad. Then
+beginning of each example; on each malformed line alone; on a megabyte of noise of two kinds; and on COUNT random inputs, good and bad. Then
 it is tried at its edges (edges.py).
 Prints how many agreed; the exit status is 1 if any did not.
 """
@@ -22,7 +22,8 @@ sys.path.insert(0, str(TESTS / "second"))
 from edges import SECONDS, edges  # noqa: E402
 
 MEGABYTE = 1_000_000
-EXAMPLES = {"jig": TESTS.parent / "crates" / "jig" / "stdin", "replay": TESTS / "stored" / "replay" / "small_board.in"}
+STORED = TESTS / "stored" / "replay"
+EXAMPLES = {"jig": (TESTS.parent / "crates" / "jig" / "stdin",), "replay": (STORED / "small_board.in", STORED / "floats_refused.in")}
 LONGEST = 1_500
 LONGEST_LINE = 150
 # An input of whole lines, and one with more output than a small pipe takes.
@@ -53,10 +54,11 @@ def stored(name: str) -> Iterator[tuple[str, bytes, bytes]]:
 
 
 def beginnings(name: str) -> Iterator[tuple[str, bytes]]:
-    """The beginnings of an example, from nothing on."""
-    example = EXAMPLES[name].read_bytes()[:LONGEST]
-    for length in range(len(example) + 1):
-        yield f"{length} bytes of the example", example[:length]
+    """The beginnings of each example, from nothing on."""
+    for path in EXAMPLES[name]:
+        example = path.read_bytes()[:LONGEST]
+        for length in range(len(example) + 1):
+            yield f"{length} bytes of {path.name}", example[:length]
 
 
 def noise(seed: int) -> Iterator[tuple[str, bytes]]:

@@ -20,6 +20,8 @@ static const struct rules rules[CALLS] = {
     [CALL_START] = {"ramp_start", BIT(BOARD), {99, 9}},
     [CALL_FEED] = {"ramp_feed", BIT(BOARD) | BIT(SUMS), {99, 10, 11, 12, 13, 14}},
     [CALL_READ_OUT] = {"ramp_read_out", BIT(BOARD) | BIT(WORDS), {99, 10, 11, 15, 16, 14}},
+    [CALL_FEED_FLOATS] = {"ramp_feed_floats", BIT(BOARD) | BIT(FLOATS), {99, 10, 11, 12, 13, 14}},
+    [CALL_READ_OUT_FLOATS] = {"ramp_read_out_floats", BIT(BOARD) | BIT(WORDS), {99, 10, 11, 15, 16, 14}},
     [CALL_DROP] = {"ramp_drop", BIT(BOARD), {99, 10}},
     [CALL_COVERED] = {"ramp_covered", BIT(COVERED), {99}},
     [CALL_READ_WORD] = {"ramp_read_word", BIT(KIND) | BIT(LOW) | BIT(HIGH) | BIT(SAMPLE), {7}},
@@ -36,6 +38,7 @@ static const struct {
     [RECORD] = {"the record", sizeof(uint8_t)},
     [READINGS] = {"the readings", sizeof(uint16_t)},
     [SUMS] = {"the sums", sizeof(int32_t)},
+    [FLOATS] = {"the sums in floats", sizeof(double)},
     [WORDS] = {"the words", sizeof(uint16_t)},
     [COVERED] = {"covered", sizeof(uint8_t)},
     [KIND] = {"kind", sizeof(uint8_t)},
@@ -102,6 +105,7 @@ int64_t *board_in(const struct scene *scene) { return scene->parts[BOARD].at; }
 uint8_t *record_in(const struct scene *scene) { return scene->parts[RECORD].at; }
 uint16_t *readings_in(const struct scene *scene) { return scene->parts[READINGS].at; }
 int32_t *sums_in(const struct scene *scene) { return scene->parts[SUMS].at; }
+double *floats_in(const struct scene *scene) { return scene->parts[FLOATS].at; }
 uint16_t *words_in(const struct scene *scene) { return scene->parts[WORDS].at; }
 uint8_t covered_in(const struct scene *scene) { return *(const uint8_t *)scene->parts[COVERED].at; }
 uint8_t kind_in(const struct scene *scene) { return *(const uint8_t *)scene->parts[KIND].at; }
@@ -113,7 +117,7 @@ size_t size_in(const struct scene *scene, enum part part) { return *(const size_
 static uint8_t answer_of(const struct scene *s, enum call call) {
     ramp_board *board = s->parts[BOARD].at;
     size_t board_words = s->parts[BOARD].count, record_length = s->parts[RECORD].count, reading_count = s->parts[READINGS].count;
-    size_t sum_count = s->parts[SUMS].count, word_count = s->parts[WORDS].count;
+    size_t sum_count = s->parts[SUMS].count, float_count = s->parts[FLOATS].count, word_count = s->parts[WORDS].count;
     size_t *place = s->parts[PLACE].at;
     switch (call) {
     case CALL_OPEN:
@@ -126,6 +130,10 @@ static uint8_t answer_of(const struct scene *s, enum call call) {
         return ramp_feed(board, board_words, readings_in(s), reading_count, sums_in(s), sum_count, place);
     case CALL_READ_OUT:
         return ramp_read_out(board, board_words, sums_in(s), sum_count, words_in(s), word_count, place);
+    case CALL_FEED_FLOATS:
+        return ramp_feed_floats(board, board_words, readings_in(s), reading_count, floats_in(s), float_count, place);
+    case CALL_READ_OUT_FLOATS:
+        return ramp_read_out_floats(board, board_words, floats_in(s), float_count, words_in(s), word_count, place);
     case CALL_DROP:
         return ramp_drop(board, board_words, place);
     case CALL_COVERED:
@@ -182,7 +190,8 @@ static void check_answer(const struct scene *scene, enum call call, uint8_t numb
         }
         expect(place == first && first < scene->parts[READINGS].count, "%s answers 13 at %zu, and not at %zu", name, place, first);
     } else if (number == 14) {
-        expect(place < scene->parts[SUMS].count, "%s answers 14 at %zu, outside of the sums", name, place);
+        enum part sums = call == CALL_FEED_FLOATS || call == CALL_READ_OUT_FLOATS ? FLOATS : SUMS;
+        expect(place < scene->parts[sums].count, "%s answers 14 at %zu, outside of the sums", name, place);
     } else {
         expect(place == 0, "%s answers %d at %zu, and not at 0", name, number, place);
     }

@@ -14,6 +14,8 @@ enum call {
     CALL_START,
     CALL_FEED,
     CALL_READ_OUT,
+    CALL_FEED_FLOATS,
+    CALL_READ_OUT_FLOATS,
     CALL_DROP,
     CALL_COVERED,
     CALL_READ_WORD,
@@ -23,12 +25,13 @@ enum call {
     CALLS
 };
 
-/* What a call is lent: five buffers, and the single numbers that it writes. */
+/* What a call is lent: six buffers, and the single numbers that it writes. */
 enum part {
     BOARD,
     RECORD,
     READINGS,
     SUMS,
+    FLOATS,
     WORDS,
     COVERED,
     KIND,
@@ -67,6 +70,7 @@ int64_t *board_in(const struct scene *scene);
 uint8_t *record_in(const struct scene *scene);
 uint16_t *readings_in(const struct scene *scene);
 int32_t *sums_in(const struct scene *scene);
+double *floats_in(const struct scene *scene);
 uint16_t *words_in(const struct scene *scene);
 uint8_t covered_in(const struct scene *scene);
 uint8_t kind_in(const struct scene *scene);

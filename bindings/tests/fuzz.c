@@ -1,9 +1,11 @@
 /* Calls of every function of ramp_board.h from a seed, COUNT of them: mostly good ones in a sensible order, between them boards, sums, lengths, readings and
    records that are damaged. fuzz SEED COUNT, with a count of 60,000 or more, so that every function gives each of its answers. It is run where a read or a write
-   outside of what is lent is noticed; beside what holds of every call, it checks that a buffer that holds no board is answered with 99, and no other, and what a
-   taken call leaves of the board. */
+   outside of what is lent is noticed; beside what holds of every call, it checks that a buffer that holds no board is answered with 99, and no other, what a
+   taken call leaves of the board, and that a call with sums in floats does what the one with their whole numbers does. */
 #include "calls.h"
 
+#include <float.h>
+#include <math.h>
 #include <stdio.h>
 #include <stdlib.h>
 #include <string.h>
@@ -87,9 +89,11 @@ static void apply(const struct scene *scene, enum call call, int64_t *board) {
         memcpy(board + IN_FORCE, board + WAITING, sizeof defaults);
         break;
     case CALL_FEED:
+    case CALL_FEED_FLOATS:
         board[FED] += (int64_t)scene->parts[READINGS].count;
         break;
     case CALL_READ_OUT:
+    case CALL_READ_OUT_FLOATS:
     case CALL_DROP:
         board[RUNNING] = board[FED] = 0;
         break;
@@ -107,7 +111,7 @@ static void check_refusal(const int64_t *board, size_t count, enum call call, ui
     if (number == 99 || call == CALL_OPEN) {
         return;
     }
-    bool wants_ramp = call == CALL_FEED || call == CALL_READ_OUT || call == CALL_DROP;
+    bool wants_ramp = CALL_FEED <= call && call <= CALL_DROP;
     expect((number == 10) == (wants_ramp && board[RUNNING] == 0), "%s answers %d, and a ramp runs: %d", name_of(call), number, (int)board[RUNNING]);
     expect((number == 9) == (call == CALL_START && board[RUNNING] == 1), "%s answers %d, and a ramp runs: %d", name_of(call), number, (int)board[RUNNING]);
 }
@@ -125,39 +129,97 @@ static void check_board(const struct scene *scene, enum call call, const int64_t
     }
 }
 
-/* Feed writes only entries that get a reading. */
-static void check_sums(const struct scene *scene, const int64_t *board, const int32_t *before) {
+/* Feed writes only entries that get a reading; the others stay bit for bit. */
+static void check_sums(const struct scene *scene, enum call call, const int64_t *board, const int32_t *sums, const double *floats) {
     size_t pixels = pixels_of(board), count = scene->parts[READINGS].count;
     for (size_t i = count; i < pixels; i += 1) {
         size_t pixel = ((size_t)board[FED] + i) % pixels;
-        expect(sums_in(scene)[pixel] == before[pixel], "ramp_feed writes entry %zu, which gets no reading", pixel);
+        bool stays = call == CALL_FEED ? sums_in(scene)[pixel] == sums[pixel] : memcmp(floats_in(scene) + pixel, floats + pixel, sizeof(double)) == 0;
+        expect(stays, "%s writes entry %zu, which gets no reading", name_of(call), pixel);
+    }
+}
+
+/* The whole number of 32 bits that a float is, or one that isn't possible, as the float isn't. */
+static int32_t whole_of(double entry) {
+    bool whole = INT32_MIN <= entry && entry <= INT32_MAX && entry == (int32_t)entry && !(entry == 0 && signbit(entry));
+    return whole ? (int32_t)entry : INT32_MIN;
+}
+
+/* A call with the whole numbers of the sums in floats: what it is lent, its answer, and its place. */
+struct twin {
+    int64_t board[2 * RAMP_BOARD_WORDS];
+    int32_t sums[MOST_ENTRIES];
+    uint16_t words[MOST_ENTRIES];
+    uint8_t number;
+    size_t place;
+};
+
+static void make_twin(struct twin *twin, const struct scene *scene, enum call call) {
+    size_t board_words = scene->parts[BOARD].count, sum_count = scene->parts[FLOATS].count, word_count = scene->parts[WORDS].count;
+    memcpy(twin->board, board_in(scene), board_words * sizeof twin->board[0]);
+    memcpy(twin->words, words_in(scene), word_count * sizeof twin->words[0]);
+    for (size_t i = 0; i < sum_count; i += 1) {
+        twin->sums[i] = whole_of(floats_in(scene)[i]);
+    }
+    ramp_board *board = (ramp_board *)twin->board;
+    if (call == CALL_FEED_FLOATS) {
+        twin->number = ramp_feed(board, board_words, readings_in(scene), scene->parts[READINGS].count, twin->sums, sum_count, &twin->place);
+    } else {
+        twin->number = ramp_read_out(board, board_words, twin->sums, sum_count, twin->words, word_count, &twin->place);
+    }
+}
+
+/* The call with floats answers what its twin does, and leaves the same board, the same whole numbers where it fed, and the same words. */
+static void check_twin(const struct twin *twin, const struct scene *scene, enum call call, uint8_t number, const int64_t *before) {
+    size_t place = size_in(scene, PLACE);
+    expect(number == twin->number && place == twin->place, "%s answers %d at %zu, and not %d at %zu", name_of(call), number, place, twin->number, twin->place);
+    expect(memcmp(board_in(scene), twin->board, scene->parts[BOARD].count * sizeof twin->board[0]) == 0, "%s leaves another board", name_of(call));
+    expect(memcmp(words_in(scene), twin->words, scene->parts[WORDS].count * sizeof twin->words[0]) == 0, "%s leaves other words", name_of(call));
+    if (number != 0 || call == CALL_READ_OUT_FLOATS) {
+        return;
+    }
+    size_t pixels = pixels_of(before), count = scene->parts[READINGS].count;
+    for (size_t i = 0; i < count && i < pixels; i += 1) {
+        size_t pixel = ((size_t)before[FED] + i) % pixels;
+        const double entry = twin->sums[pixel];
+        expect(memcmp(floats_in(scene) + pixel, &entry, sizeof entry) == 0, "ramp_feed_floats stores %g, and not %g", floats_in(scene)[pixel], entry);
     }
 }
 
 /* Read out gives words of 15 bits. */
-static void check_words(const struct scene *scene) {
+static void check_words(const struct scene *scene, enum call call) {
     for (size_t i = 0; i < scene->parts[WORDS].count; i += 1) {
-        expect(words_in(scene)[i] < 32768, "ramp_read_out gives the word %d", words_in(scene)[i]);
+        expect(words_in(scene)[i] < 32768, "%s gives the word %d", name_of(call), words_in(scene)[i]);
     }
 }
 
 /* Makes a call on the scene's board. */
 static uint8_t make_on_board(struct scene *scene, enum call call) {
+    static struct twin twin;
     int64_t before[2 * RAMP_BOARD_WORDS] = {0};
     int32_t sums[MOST_ENTRIES];
+    double floats[MOST_ENTRIES];
     size_t count = scene->parts[BOARD].count;
+    bool with_floats = call == CALL_FEED_FLOATS || call == CALL_READ_OUT_FLOATS;
     memcpy(before, board_in(scene), count * sizeof before[0]);
     memcpy(sums, sums_in(scene), scene->parts[SUMS].count * sizeof sums[0]);
+    memcpy(floats, floats_in(scene), scene->parts[FLOATS].count * sizeof floats[0]);
+    if (with_floats) {
+        make_twin(&twin, scene, call);
+    }
     uint8_t number = make(scene, call);
     check_refusal(before, count, call, number);
+    if (with_floats) {
+        check_twin(&twin, scene, call, number, before);
+    }
     if (number == 0) {
         check_board(scene, call, before);
     }
-    if (number == 0 && call == CALL_FEED) {
-        check_sums(scene, before, sums);
+    if (number == 0 && (call == CALL_FEED || call == CALL_FEED_FLOATS)) {
+        check_sums(scene, call, before, sums, floats);
     }
-    if (number == 0 && call == CALL_READ_OUT) {
-        check_words(scene);
+    if (number == 0 && (call == CALL_READ_OUT || call == CALL_READ_OUT_FLOATS)) {
+        check_words(scene, call);
     }
     return number;
 }
@@ -178,6 +240,16 @@ static void lend_sums(struct scene *scene, size_t count) {
         sums[i] = (int32_t)draw();
     }
     lend(scene, SUMS, sums, count);
+}
+
+/* Floats of any pattern, many of them no number. */
+static void lend_floats(struct scene *scene, size_t count) {
+    double floats[MOST_ENTRIES];
+    for (size_t i = 0; i < count; i += 1) {
+        uint64_t pattern = draw() | (chance(30) ? 0x7FF0000000000000 : 0);
+        memcpy(floats + i, &pattern, sizeof pattern);
+    }
+    lend(scene, FLOATS, floats, count);
 }
 
 static void draw_sides(struct scene *scene) {
@@ -278,6 +350,17 @@ static void spoil_sums(struct scene *scene) {
     }
 }
 
+static void spoil_floats(struct scene *scene) {
+    const double entries[] = {0.0, -0.0, NAN, -NAN, INFINITY, -INFINITY, 0.5, -0.5, 128.25, 128.5, DBL_MIN, DBL_MAX, 245873, 245873.5, 245874, 2211833, 2211834,
+                              1073741824, 1073741825, 1073741825.5, 1073741826, 1073741833, 1073741834, 2147483648, -2147483648.0, -2147483649.0, 4294967424};
+    size_t count = scene->parts[FLOATS].count;
+    if (count == 0 || chance(20)) {
+        lend_floats(scene, other_count(count) % MOST_ENTRIES);
+    } else {
+        floats_in(scene)[below(count)] = chance(80) ? entries[below(COUNT(entries))] : (double)(int64_t)draw() / 1048576;
+    }
+}
+
 /* One number of the board, or its length. */
 static void spoil_board(struct scene *scene) {
     int64_t board[2 * RAMP_BOARD_WORDS] = {0};
@@ -315,6 +398,8 @@ static void spoil_board(struct scene *scene) {
 
 /* ---- Steps: a call, and now and then something wrong with it ---- */
 
+static bool in_floats; /* whether the ramp is summed in floats */
+
 /* A call that fits the board, mostly the one that a ramp wants next. Where there is no board: any call, or Open in other memory. */
 static enum call next_call(struct scene *scene) {
     const int64_t *board = board_in(scene);
@@ -327,9 +412,30 @@ static enum call next_call(struct scene *scene) {
         return (enum call)below(CALLS);
     }
     if (board[RUNNING] == 0) {
+        in_floats = chance(50);
         return chance(60) ? CALL_START : CALL_UPDATE;
     }
-    return wanted_of(board) > 0 ? CALL_FEED : CALL_READ_OUT;
+    if (wanted_of(board) > 0) {
+        return in_floats ? CALL_FEED_FLOATS : CALL_FEED;
+    }
+    return in_floats ? CALL_READ_OUT_FLOATS : CALL_READ_OUT;
+}
+
+/* From here on the ramp is summed in the other kind, from the same whole numbers. */
+static void change_kind(struct scene *scene) {
+    int32_t sums[MOST_ENTRIES];
+    double floats[MOST_ENTRIES];
+    size_t count = scene->parts[in_floats ? FLOATS : SUMS].count;
+    for (size_t i = 0; i < count; i += 1) {
+        sums[i] = in_floats ? whole_of(floats_in(scene)[i]) : sums_in(scene)[i];
+        floats[i] = sums[i];
+    }
+    if (in_floats) {
+        lend(scene, SUMS, sums, count);
+    } else {
+        lend(scene, FLOATS, floats, count);
+    }
+    in_floats = !in_floats;
 }
 
 /* What a call on a board brings, as the board wants it; the sums stay, but for those of the first feed. */
@@ -339,10 +445,22 @@ static void lend_for_board(struct scene *scene, enum call call) {
     if (call == CALL_FEED && (!holds(scene) || board[FED] == 0)) {
         lend_sums(scene, sum_count < MOST_ENTRIES ? sum_count : 4);
     }
+    if (call == CALL_FEED_FLOATS && (!holds(scene) || board[FED] == 0)) {
+        lend_floats(scene, sum_count < MOST_ENTRIES ? sum_count : 4);
+    }
     lend_readings(scene, wanted_in(scene));
     lend_shorts(scene, WORDS, word_count < MOST_ENTRIES ? word_count : 4, 65536);
     lend_record(scene, FIELDS);
     draw_sides(scene);
+}
+
+/* The sums that the call is lent. */
+static void spoil_entries(struct scene *scene, enum call call) {
+    if (call == CALL_FEED || call == CALL_READ_OUT) {
+        spoil_sums(scene);
+    } else {
+        spoil_floats(scene);
+    }
 }
 
 static void spoil_for_board(struct scene *scene, enum call call) {
@@ -354,18 +472,20 @@ static void spoil_for_board(struct scene *scene, enum call call) {
         spoil_record(scene);
         break;
     case CALL_FEED:
+    case CALL_FEED_FLOATS:
         if (chance(50)) {
             spoil_readings(scene, wanted_in(scene));
             break;
         }
-        spoil_sums(scene);
+        spoil_entries(scene, call);
         break;
     case CALL_READ_OUT:
+    case CALL_READ_OUT_FLOATS:
         if (chance(30)) {
             lend_shorts(scene, WORDS, other_count(scene->parts[WORDS].count) % MOST_ENTRIES, 65536);
             break;
         }
-        spoil_sums(scene);
+        spoil_entries(scene, call);
         break;
     default:
         spoil_board(scene);
@@ -377,12 +497,14 @@ static void spoil_for_board(struct scene *scene, enum call call) {
 static void step_on_board(struct scene *scene, enum call call) {
     int64_t board[2 * RAMP_BOARD_WORDS];
     int32_t sums[MOST_ENTRIES];
+    double floats[MOST_ENTRIES];
     size_t board_words = scene->parts[BOARD].count;
     bool spoiled = chance(25);
     memcpy(board, board_in(scene), board_words * sizeof board[0]);
     lend_for_board(scene, call);
-    size_t sum_count = scene->parts[SUMS].count;
+    size_t sum_count = scene->parts[SUMS].count, float_count = scene->parts[FLOATS].count;
     memcpy(sums, sums_in(scene), sum_count * sizeof sums[0]);
+    memcpy(floats, floats_in(scene), float_count * sizeof floats[0]);
     if (spoiled) {
         spoil_for_board(scene, call);
     }
@@ -392,6 +514,7 @@ static void step_on_board(struct scene *scene, enum call call) {
     if (make_on_board(scene, call) != 0 && chance(90)) {
         lend(scene, BOARD, board, board_words);
         lend(scene, SUMS, sums, sum_count);
+        lend(scene, FLOATS, floats, float_count);
     }
 }
 
@@ -501,6 +624,9 @@ static void step_frame(struct scene *scene) {
 /* A step on the board that is kept, or one that needs none. */
 static void step(struct scene *kept, struct scene *other) {
     enum call call = next_call(kept);
+    if (chance(2)) {
+        change_kind(kept);
+    }
     switch (call) {
     case CALL_READ_WORD:
         step_word(other);
@@ -536,12 +662,14 @@ static void damaged_boards(struct scene *scene) {
             for (size_t j = 0; j < COUNT(numbers); j += 1) {
                 for (enum call call = CALL_OPEN; call <= CALL_COVERED; call += 1) {
                     const int32_t sums[] = {128, 129, 130, 131};
+                    const double floats[] = {128, 129, 130, 131};
                     int64_t board[RAMP_BOARD_WORDS];
                     memcpy(board, boards[i], sizeof board);
                     board[at] = numbers[j];
                     lend(scene, BOARD, board, RAMP_BOARD_WORDS);
                     lend_for_board(scene, call);
                     lend(scene, SUMS, sums, COUNT(sums));
+                    lend(scene, FLOATS, floats, COUNT(floats));
                     make_on_board(scene, call);
                 }
             }
@@ -549,12 +677,13 @@ static void damaged_boards(struct scene *scene) {
     }
 }
 
-/* New memory, which holds nothing yet: a board is opened in it, a first feed writes the sums, and a read-out the words. */
+/* New memory, which holds nothing yet: a board is opened in it, a first feed writes the sums, and a read-out the words; the same in floats. */
 static void new_memory(void) {
     const uint8_t record[] = {0x00, 0x08, 2};
     const uint16_t readings[] = {1, 2, 3, 4, 5, 6, 7, 8};
     ramp_board *board = malloc(sizeof *board);
     int32_t *sums = malloc(4 * sizeof *sums);
+    double *floats = malloc(4 * sizeof *floats);
     uint16_t *words = malloc(4 * sizeof *words);
     size_t *place = malloc(sizeof *place);
     expect(ramp_open(board, RAMP_BOARD_WORDS, 2, 2, false, place) == 0 && *place == 0, "new memory is opened");
@@ -567,8 +696,16 @@ static void new_memory(void) {
         int sum = 128 - 4 * readings[i] - 3 * readings[4 + i];
         expect(sums[i] == sum && words[i] == sum / 4, "new memory holds %d and %d, and not %d and %d", sums[i], words[i], sum, sum / 4);
     }
+    expect(ramp_start(board, RAMP_BOARD_WORDS, place) == 0 && *place == 0, "a ramp in floats is started");
+    expect(ramp_feed_floats(board, RAMP_BOARD_WORDS, readings, 3, floats, 4, place) == 0 && *place == 0, "new memory is fed in floats");
+    expect(ramp_feed_floats(board, RAMP_BOARD_WORDS, readings + 3, 5, floats, 4, place) == 0 && *place == 0, "new memory is fed on in floats");
+    expect(ramp_read_out_floats(board, RAMP_BOARD_WORDS, floats, 4, words, 4, place) == 0 && *place == 0, "floats are read out");
+    for (size_t i = 0; i < 4; i += 1) {
+        expect(floats[i] == sums[i] && words[i] == sums[i] / 4, "new memory holds %g and %d, and not %d and %d", floats[i], words[i], sums[i], sums[i] / 4);
+    }
     free(board);
     free(sums);
+    free(floats);
     free(words);
     free(place);
 }

@@ -1,6 +1,8 @@
 /* Known answers of every function of ramp_board.h, each refusal among them. */
 #include "calls.h"
 
+#include <float.h>
+#include <math.h>
 #include <stdio.h>
 #include <stdlib.h>
 #include <string.h>
@@ -44,6 +46,22 @@ static void example(void) {
     expect(memcmp(sums, whole_sums, sizeof sums) == 0 && memcmp(words, whole_words, sizeof words) == 0, "the frame in one call is that of the example");
 }
 
+/* The example in floats, which hold nothing before. */
+static void example_in_floats(void) {
+    const uint16_t readings[] = {0, 16383};
+    double sums[2] = {NAN, -0.5};
+    uint16_t words[2] = {7, 7};
+    ramp_board board;
+    size_t place = 5;
+    expect(ramp_open(&board, RAMP_BOARD_WORDS, 2, 1, false, &place) == 0, "the example in floats is opened");
+    expect(ramp_update(&board, RAMP_BOARD_WORDS, one_sample, 6, &place) == 0, "the example in floats is updated");
+    expect(ramp_start(&board, RAMP_BOARD_WORDS, &place) == 0, "the example in floats is started");
+    expect(ramp_feed_floats(&board, RAMP_BOARD_WORDS, readings, 2, sums, 2, &place) == 0 && place == 0, "the example is fed in floats");
+    expect(ramp_read_out_floats(&board, RAMP_BOARD_WORDS, sums, 2, words, 2, &place) == 0 && place == 0, "the example is read out in floats");
+    expect(sums[0] == 128 && sums[1] == 16511, "the floats of the example are %g and %g", sums[0], sums[1]);
+    expect(words[0] == 32 && words[1] == 4127, "the words of the example in floats are %d and %d", words[0], words[1]);
+}
+
 /* The settings that a board opens with: the threshold marks a reading of 13,088, and none of 13,087; they are covered. */
 static void defaults(void) {
     uint16_t readings[9] = {13087, 13087, 13087, 13087, 13087, 13087, 13087, 13087, 13087};
@@ -79,27 +97,33 @@ static struct whole whole_ramp(bool binned, size_t seed) {
     return whole;
 }
 
-/* A user's own struct: a board, and the sums that belong to its ramp. */
+/* A user's own struct: a board, and the sums that belong to its ramp, of one kind or the other. */
 struct detector {
     char name[3];
     ramp_board board;
+    bool in_floats;
     int32_t sums[8];
+    double floats[8];
 };
 
-static void start(struct detector *detector, bool binned) {
+static void start(struct detector *detector, bool binned, bool in_floats) {
     size_t place;
     ramp_board *board = &detector->board;
     expect(ramp_open(board, RAMP_BOARD_WORDS, 4, 2, binned, &place) == 0, "a detector is opened");
     expect(ramp_update(board, RAMP_BOARD_WORDS, threshold, 4, &place) == 0, "a detector is updated");
     expect(ramp_start(board, RAMP_BOARD_WORDS, &place) == 0, "a detector is started");
+    detector->in_floats = in_floats;
     for (size_t i = 0; i < 8; i += 1) {
         detector->sums[i] = INT32_MIN;
+        detector->floats[i] = NAN;
     }
 }
 
 static void feed(struct detector *detector, const struct whole *whole, size_t from, size_t to) {
     size_t place;
-    uint8_t number = ramp_feed(&detector->board, RAMP_BOARD_WORDS, whole->readings + from, to - from, detector->sums, 8, &place);
+    ramp_board *board = &detector->board;
+    uint8_t number = detector->in_floats ? ramp_feed_floats(board, RAMP_BOARD_WORDS, whole->readings + from, to - from, detector->floats, 8, &place)
+                                         : ramp_feed(board, RAMP_BOARD_WORDS, whole->readings + from, to - from, detector->sums, 8, &place);
     expect(number == 0 && place == 0, "readings %zu to %zu are refused with %d", from, to, number);
 }
 
@@ -107,17 +131,23 @@ static void feed(struct detector *detector, const struct whole *whole, size_t fr
 static void expect_frame(struct detector *detector, const struct whole *whole, const char *what) {
     uint16_t words[8];
     size_t place;
-    expect(ramp_read_out(&detector->board, RAMP_BOARD_WORDS, detector->sums, 8, words, whole->word_count, &place) == 0, "%s: it is read out", what);
-    expect(memcmp(detector->sums, whole->sums, sizeof whole->sums) == 0, "%s: the sums", what);
+    ramp_board *board = &detector->board;
+    uint8_t number = detector->in_floats ? ramp_read_out_floats(board, RAMP_BOARD_WORDS, detector->floats, 8, words, whole->word_count, &place)
+                                         : ramp_read_out(board, RAMP_BOARD_WORDS, detector->sums, 8, words, whole->word_count, &place);
+    expect(number == 0, "%s: it is refused with %d", what, number);
+    for (size_t i = 0; i < 8; i += 1) {
+        const double entry = whole->sums[i];
+        expect(detector->in_floats ? memcmp(&detector->floats[i], &entry, sizeof entry) == 0 : detector->sums[i] == whole->sums[i], "%s: entry %zu", what, i);
+    }
     expect(memcmp(words, whole->words, whole->word_count * sizeof words[0]) == 0, "%s: the words", what);
 }
 
-/* Fed in parts of every length on one board, the ramp comes to the sums and words that ramp_frame leaves. */
-static void in_parts(bool binned) {
+/* Fed in parts of every length on one board, the ramp comes to the sums and words that ramp_frame leaves, in either kind. */
+static void in_parts(bool binned, bool in_floats) {
     struct whole whole = whole_ramp(binned, 0);
     struct detector detector;
     for (size_t part = 1; part <= 72; part += 1) {
-        start(&detector, binned);
+        start(&detector, binned, in_floats);
         for (size_t fed = 0; fed < 72; fed += part) {
             feed(&detector, &whole, fed, fed + part < 72 ? fed + part : 72);
         }
@@ -136,7 +166,7 @@ static void copied(void) {
     expect(memcmp(one.words, other.words, sizeof one.words) != 0, "the two ramps differ");
 
     struct detector first, second;
-    start(&first, false);
+    start(&first, false, false);
     feed(&first, &one, 0, 37);
     second = first;
     feed(&first, &one, 37, 50);
@@ -147,10 +177,10 @@ static void copied(void) {
 }
 
 /* A board that was kept is brought back, as often as one likes: through a file, and to any place in memory. */
-static void kept(bool binned) {
+static void kept(bool binned, bool in_floats) {
     struct whole whole = whole_ramp(binned, 0);
     struct detector detector;
-    start(&detector, binned);
+    start(&detector, binned, in_floats);
     feed(&detector, &whole, 0, 41);
     FILE *file = tmpfile();
     if (file == NULL || fwrite(&detector, sizeof detector, 1, file) != 1) {
@@ -180,7 +210,7 @@ static void update_in_ramp(void) {
     struct detector detector;
     size_t place;
     uint8_t covered = 7;
-    start(&detector, false);
+    start(&detector, false, false);
     ramp_board *board = &detector.board;
     feed(&detector, &whole, 0, 20);
     expect(ramp_update(board, RAMP_BOARD_WORDS, large, sizeof large, &place) == 0, "an update in a ramp is taken");
@@ -212,14 +242,16 @@ static void lend_started(struct scene *scene, uint8_t samples) {
     lend(scene, BOARD, board.words, RAMP_BOARD_WORDS);
 }
 
-/* The same with one sample fed. */
+/* The same with one sample fed: the sums, and the same in floats. */
 static void lend_fed(struct scene *scene, uint8_t samples) {
     const uint16_t readings[] = {10, 20};
     int32_t sums[2];
     size_t place;
     lend_started(scene, samples);
     expect(ramp_feed((ramp_board *)board_in(scene), RAMP_BOARD_WORDS, readings, 2, sums, 2, &place) == 0, "a sample");
+    const double floats[] = {sums[0], sums[1]};
     LEND(scene, SUMS, sums);
+    LEND(scene, FLOATS, floats);
 }
 
 /* The same with no ramp. */
@@ -385,6 +417,148 @@ static void refused_read_out(struct scene *scene) {
     expect_taken(scene, CALL_READ_OUT, "a sum that was mended");
     expect(words_in(scene)[0] == 19 && words_in(scene)[1] == 32753, "the words are %d and %d", words_in(scene)[0], words_in(scene)[1]);
     expect_answer(scene, CALL_READ_OUT, 10, 0, "it was read out");
+}
+
+/* Floats of which none is possible after one sample; the numbers among them are too large, or stand between two whole ones. */
+static const double not_possible[] = {NAN,     -NAN,    INFINITY,   -INFINITY,  -0.0,         0.25,       -0.5,        128.5,        245872.5,   245874,
+                                      -245618, DBL_MIN, DBL_MAX,    1073741824, 1073741825.5, 1073741826, 2147483648., -2147483648., 4294967424, 9007199254740993};
+/* Floats that are: the bounds, 0, and the mark of sample 1. */
+static const double possible[] = {245873, -245617, 0, 128, 1073741825};
+
+static void refused_feed_floats(struct scene *scene) {
+    const uint16_t readings[] = {5, 16384, 65535, 7, 8}, mended[] = {5, 16383};
+    const double floats[] = {77, NAN, 3};
+    LEND(scene, READINGS, readings);
+    lend_idle(scene);
+    LEND(scene, FLOATS, floats);
+    expect_answer(scene, CALL_FEED_FLOATS, 10, 0, "no ramp");
+    lend_fed(scene, 3);
+    lend(scene, FLOATS, floats, 0);
+    expect_answer(scene, CALL_FEED_FLOATS, 11, 0, "no sums");
+    lend(scene, FLOATS, floats, 1);
+    expect_answer(scene, CALL_FEED_FLOATS, 11, 0, "a sum less");
+    lend(scene, FLOATS, floats, 3);
+    expect_answer(scene, CALL_FEED_FLOATS, 11, 0, "a sum more");
+    lend(scene, FLOATS, floats, 2);
+    expect_answer(scene, CALL_FEED_FLOATS, 12, 0, "a reading more");
+    lend(scene, READINGS, readings, 4);
+    expect_answer(scene, CALL_FEED_FLOATS, 13, 1, "the second reading");
+    LEND(scene, READINGS, mended);
+    for (size_t i = 0; i < COUNT(not_possible); i += 1) {
+        floats_in(scene)[1] = not_possible[i];
+        expect_answer(scene, CALL_FEED_FLOATS, 14, 1, "the second entry");
+        floats_in(scene)[0] = not_possible[i];
+        expect_answer(scene, CALL_FEED_FLOATS, 14, 0, "both entries");
+        floats_in(scene)[0] = 77;
+    }
+    floats_in(scene)[1] = 128;
+    lend(scene, READINGS, mended, 0);
+    expect_taken(scene, CALL_FEED_FLOATS, "no reading");
+    LEND(scene, READINGS, mended);
+    expect_taken(scene, CALL_FEED_FLOATS, "a sum that was mended");
+    expect(floats_in(scene)[0] == 77 - 3 * 5 && floats_in(scene)[1] == 1073741826, "the floats are %g and %g", floats_in(scene)[0], floats_in(scene)[1]);
+    for (size_t i = 0; i < COUNT(possible); i += 1) {
+        lend_fed(scene, 3);
+        floats_in(scene)[1] = possible[i];
+        const double next = possible[i] == 1073741825 ? possible[i] : possible[i] - 3 * 20;
+        const uint16_t further[] = {10, 20};
+        LEND(scene, READINGS, further);
+        expect_taken(scene, CALL_FEED_FLOATS, "an entry that is possible");
+        expect(floats_in(scene)[1] == next, "%g becomes %g", possible[i], floats_in(scene)[1]);
+    }
+}
+
+/* Entry 0 must be this float, and entry 1 have this pattern. */
+static void expect_floats(const struct scene *scene, double first, uint64_t second, const char *what) {
+    const double *floats = floats_in(scene);
+    expect(memcmp(floats, &first, sizeof first) == 0 && memcmp(floats + 1, &second, sizeof second) == 0, "%s: the floats are %g and %g", what, floats[0],
+           floats[1]);
+}
+
+/* An entry that gets no reading stays bit for bit, whatever it is; and one that sample 1 sets may be anything. */
+static void any_floats(struct scene *scene) {
+    const uint64_t patterns[] = {0x7FF8000000000000, 0x7FF0DEADBEEF0001, 0xFFF4000000000001, 0xFFFFFFFFFFFFFFFF, 0x7FF0000000000000,
+                                 0x8000000000000000, 0x0000000000000001, 0x3FE0000000000000, 0x41F0000008000000};
+    const uint16_t reading[] = {32};
+    LEND(scene, READINGS, reading);
+    for (size_t i = 0; i < COUNT(patterns); i += 1) {
+        const uint64_t both[] = {patterns[i], patterns[i]};
+        lend_started(scene, 2);
+        LEND(scene, FLOATS, both);
+        expect_taken(scene, CALL_FEED_FLOATS, "sample 1 of the first entry");
+        expect_floats(scene, 0, patterns[i], "sample 1 of the first entry");
+        expect_taken(scene, CALL_FEED_FLOATS, "sample 1 of the second entry");
+        expect_floats(scene, 0, 0, "sample 1 of the second entry");
+        memcpy(floats_in(scene) + 1, patterns + i, sizeof patterns[i]);
+        expect_taken(scene, CALL_FEED_FLOATS, "sample 2 of the first entry");
+        expect_floats(scene, -96, patterns[i], "sample 2 of the first entry");
+        expect_answer(scene, CALL_FEED_FLOATS, 14, 1, "sample 2 of the second entry");
+    }
+}
+
+/* A product of minus zero is never seen: weight 0, and a reading of 0 with a negative weight, over sums of 0 and of others. */
+static void no_minus_zero(struct scene *scene) {
+    const uint8_t record[] = {0x07, 0x08, 0x18, 0x10, 0x1F, 3}; /* weights -8, -0 and -15, and N is 3 */
+    const uint16_t readings[3][2] = {{16, 0}, {7, 16}, {0, 0}};
+    const uint64_t pedestal = 0x4060000000000000; /* 128 */
+    size_t place;
+    lend_idle(scene);
+    ramp_board *board = (ramp_board *)board_in(scene);
+    expect(ramp_update(board, RAMP_BOARD_WORDS, record, 6, &place) == 0 && ramp_start(board, RAMP_BOARD_WORDS, &place) == 0, "weights of minus zero");
+    lend(scene, FLOATS, not_possible, 2);
+    for (size_t sample = 0; sample < 3; sample += 1) {
+        LEND(scene, READINGS, readings[sample]);
+        expect_taken(scene, CALL_FEED_FLOATS, "a product of minus zero");
+        expect_floats(scene, 0, pedestal, "a product of minus zero");
+    }
+}
+
+static void refused_read_out_floats(struct scene *scene) {
+    const uint16_t words[] = {7, 7, 7};
+    const double floats[] = {77, NAN, 3};
+    lend_idle(scene);
+    LEND(scene, FLOATS, floats);
+    LEND(scene, WORDS, words);
+    expect_answer(scene, CALL_READ_OUT_FLOATS, 10, 0, "no ramp");
+    lend_fed(scene, 2);
+    LEND(scene, FLOATS, floats);
+    expect_answer(scene, CALL_READ_OUT_FLOATS, 11, 0, "a sum more");
+    lend(scene, FLOATS, floats, 2);
+    expect_answer(scene, CALL_READ_OUT_FLOATS, 15, 0, "a sample is wanted");
+    lend_fed(scene, 1);
+    lend(scene, FLOATS, floats, 2);
+    expect_answer(scene, CALL_READ_OUT_FLOATS, 16, 0, "a word more");
+    lend(scene, WORDS, words, 1);
+    expect_answer(scene, CALL_READ_OUT_FLOATS, 16, 0, "a word less");
+    lend(scene, WORDS, words, 2);
+    for (size_t i = 0; i < COUNT(not_possible); i += 1) {
+        floats_in(scene)[1] = not_possible[i];
+        expect_answer(scene, CALL_READ_OUT_FLOATS, 14, 1, "the second entry");
+        floats_in(scene)[0] = not_possible[i];
+        expect_answer(scene, CALL_READ_OUT_FLOATS, 14, 0, "both entries");
+        floats_in(scene)[0] = 77;
+    }
+    floats_in(scene)[1] = 1073741825;
+    expect_taken(scene, CALL_READ_OUT_FLOATS, "a sum that was mended");
+    expect(words_in(scene)[0] == 19 && words_in(scene)[1] == 32753, "the words are %d and %d", words_in(scene)[0], words_in(scene)[1]);
+    expect_answer(scene, CALL_READ_OUT_FLOATS, 10, 0, "it was read out");
+}
+
+/* A ramp that changes its kind: it is noticed by sums that aren't possible, and by nothing else. */
+static void changed_kinds(struct scene *scene) {
+    const uint16_t readings[] = {30, 40}, words[] = {7, 7};
+    const int32_t other[] = {1073741826, 128};
+    lend_fed(scene, 3);
+    LEND(scene, READINGS, readings);
+    LEND(scene, WORDS, words);
+    expect_taken(scene, CALL_FEED_FLOATS, "fed on in floats");
+    expect(floats_in(scene)[0] == 128 - 4 * 10 - 3 * 30 && floats_in(scene)[1] == 128 - 4 * 20 - 3 * 40, "the floats are %g and %g", floats_in(scene)[0],
+           floats_in(scene)[1]);
+    expect_taken(scene, CALL_FEED, "fed on in the sums of sample 1");
+    floats_in(scene)[1] = 128.5;
+    expect_answer(scene, CALL_READ_OUT_FLOATS, 14, 1, "floats that aren't possible");
+    LEND(scene, SUMS, other);
+    expect_taken(scene, CALL_READ_OUT, "other sums that are possible");
 }
 
 static void refused_frame(struct scene *scene) {
@@ -570,16 +744,20 @@ static void refused_flags(struct scene *scene) {
 
 int main(void) {
     example();
+    example_in_floats();
     defaults();
-    for (int binned = 0; binned <= 1; binned += 1) {
-        in_parts(binned);
-        kept(binned);
+    for (int kind = 0; kind < 4; kind += 1) {
+        in_parts(kind % 2 == 1, kind / 2 == 1);
+        kept(kind % 2 == 1, kind / 2 == 1);
     }
     copied();
     update_in_ramp();
 
-    static void (*const scenes[])(struct scene *) = {refused_boards, refused_open,  refused_control, refused_feed, refused_read_out, refused_frame,
-                                                     meanings,       single_flags, equal_flags,     small_frames, largest_frame,    refused_flags};
+    static void (*const scenes[])(struct scene *) = {
+        refused_boards,      refused_open,  refused_control,         refused_feed,  refused_read_out, refused_feed_floats, any_floats,
+        no_minus_zero,       changed_kinds, refused_read_out_floats, refused_frame, meanings,         single_flags,        equal_flags,
+        small_frames,        largest_frame, refused_flags,
+    };
     for (size_t i = 0; i < COUNT(scenes); i += 1) {
         struct scene scene;
         begin(&scene);

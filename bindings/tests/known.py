@@ -8,6 +8,7 @@ from __future__ import annotations
 import copy
 import ctypes
 import doctest
+import math
 import mmap
 import os
 import pickle
@@ -48,6 +49,10 @@ except ImportError:
 
 RECORD = bytes([1, 10, 1, 255, 63, 1])  # weight 1 is 1, the threshold 16,383, N is 1
 MARK = 1_073_741_824
+# What stands for each kind of items in ctypes.
+ITEMS = {"B": ctypes.c_uint8, "H": ctypes.c_uint16, "i": ctypes.c_int32, "d": ctypes.c_double}
+# Floats that no entry is after one sample.
+NOT_POSSIBLE = (math.nan, math.inf, -math.inf, -0.0, 0.25, -0.5, 128.5, 245_874.0, -245_618.0, MARK, MARK + 1.5, MARK + 2, 2.0**31, 2.0**32 + 128, 1e300, 5e-324)
 
 
 def load_tests(_loader: unittest.TestLoader, tests: unittest.TestSuite, _pattern: Optional[str]) -> unittest.TestSuite:
@@ -86,12 +91,15 @@ def running(readings: int = 0) -> tuple[Board, array[int]]:
 def calls() -> list[Call]:
     """One taken call of each that is lent a buffer."""
     (board, sums), (full, full_sums) = running(), running(2)
+    (other, _), (other_full, _) = running(), running(2)
     words = array("H", [32_753, 5])
     frame_buffers = {"record": bytearray(RECORD), "readings": array("H", [5, 6]), "sums": array("i", [7, 8]), "words": array("H", [3, 4])}
     return [
         Call("update", board.update, {"record": bytearray(RECORD)}, (), board),
         Call("feed", board.feed, {"readings": array("H", [5, 6]), "sums": sums}, ("sums",), board),
         Call("read_out", full.read_out, {"sums": full_sums, "words": array("H", [3, 4])}, ("words",), full),
+        Call("feed_floats", other.feed_floats, {"readings": array("H", [5, 6]), "sums": array("d", [7, 8])}, ("sums",), other),
+        Call("read_out_floats", other_full.read_out_floats, {"sums": array("d", full_sums), "words": array("H", [3, 4])}, ("words",), other_full),
         Call("nearest_flag", partial(nearest_flag, width=2, height=1, row=0, column=0), {"words": words}),
         Call("count_flags", partial(count_flags, width=2, height=1, first=(0, 0), last=(0, 1)), {"words": words}),
         Call("frame", partial(frame, 2, 1, False), frame_buffers, ("sums", "words")),
@@ -143,6 +151,37 @@ class Jobs(unittest.TestCase):
                     board.feed(readings[at : at + part], sums)
                 board.read_out(sums, words)
                 self.assertEqual((sums, words), (whole_sums, whole_words))
+
+    def test_floats_are_the_same_whole_numbers(self) -> None:
+        record = bytes([0, 2, 0, 48])  # the threshold is 12,288
+        readings = array("H", [number * 2477 % 12_400 for number in range(72)])
+        for binned in (False, True):
+            whole_sums, whole_words = array("i", [0] * 8), array("H", [0] * (2 if binned else 8))
+            frame(4, 2, binned, record, readings, whole_sums, whole_words)
+            for part in range(1, 73):
+                board, sums, words = Board(4, 2, binned), array("d", [math.nan, math.inf, -0.0, 0.5] * 2), array("H", [9] * len(whole_words))
+                board.update(record)
+                board.start()
+                for at in range(0, 72, part):
+                    board.feed_floats(readings[at : at + part], sums)
+                board.read_out_floats(sums, words)
+                self.assertEqual((sums, words), (array("d", whole_sums), whole_words))
+
+    def test_no_float_is_minus_zero(self) -> None:
+        board, sums = Board(2, 1), array("d", [math.nan, -0.0])
+        board.update(bytes([7, 8, 24, 16, 31, 3]))  # weights -8, -0 and -15, N is 3
+        board.start()
+        for readings in ([16, 0], [7, 16], [0, 0]):
+            board.feed_floats(array("H", readings), sums)
+            self.assertEqual(sums.tobytes(), array("d", [0, 128]).tobytes())
+
+    def test_floats_without_a_reading_stay_bit_for_bit(self) -> None:
+        for pattern in (0x7FF8000000000000, 0x7FF0DEADBEEF0001, 0xFFF4000000000001, 0xFFFFFFFFFFFFFFFF, 0x8000000000000000, 1):
+            board, sums = Board(2, 1), array("d", array("Q", [pattern, pattern]).tobytes())
+            board.start()
+            board.feed_floats(array("H", [5]), sums)
+            self.assertEqual(sums[0], 108)
+            self.assertEqual(array("Q", sums.tobytes())[1], pattern)
 
     def test_an_update_waits_for_the_next_start(self) -> None:
         board, sums, words = Board(1, 1), array("i", [0]), array("H", [0])
@@ -219,6 +258,9 @@ class Refusals(unittest.TestCase):
         board, sums, words = Board(2, 1), array("i", [7, 8]), array("H", [3, 4])
         self.refused(10, 0, lambda: board.feed(array("H", [5]), sums), sums, board=board)
         self.refused(10, 0, lambda: board.read_out(sums, words), sums, words, board=board)
+        floats = array("d", [7, 8])
+        self.refused(10, 0, lambda: board.feed_floats(array("H", [5]), floats), floats, board=board)
+        self.refused(10, 0, lambda: board.read_out_floats(floats, words), floats, words, board=board)
         self.refused(10, 0, board.drop, board=board)
 
     def test_feed(self) -> None:
@@ -249,8 +291,38 @@ class Refusals(unittest.TestCase):
             damaged = array("i", entries)
             self.refused(14, place, lambda: board.read_out(damaged, words), damaged, words, board=board)
 
+    def test_feed_floats(self) -> None:
+        board, sums = running(1)[0], array("d", [128, 8])
+        for count in (0, 1, 3):
+            short = array("d", [7] * count)
+            self.refused(11, 0, lambda: board.feed_floats(array("H", [9] * 9), short), short, board=board)
+        self.refused(12, 0, lambda: board.feed_floats(array("H", [16_384] * 2), sums), sums, board=board)
+        self.refused(13, 0, lambda: board.feed_floats(array("H", [16_384]), sums), sums, board=board)
+        board = Board(2, 1)
+        board.start()
+        board.feed_floats(array("H", [5, 5]), sums)
+        self.refused(13, 2, lambda: board.feed_floats(array("H", [1, 2, 16_384, 65_535]), sums), sums, board=board)
+        for entry in NOT_POSSIBLE:
+            for entries, count, place in (([entry, 128], 1, 0), ([128, entry], 2, 1), ([entry, entry], 2, 0)):
+                damaged = array("d", entries)
+                self.refused(14, place, lambda: board.feed_floats(array("H", [5] * count), damaged), damaged, board=board)
+
+    def test_read_out_floats(self) -> None:
+        words, two = array("H", [3, 4]), array("d", [128, 8])
+        board = running(1)[0]
+        self.refused(11, 0, lambda: board.read_out_floats(two[:1], words), words, board=board)
+        self.refused(15, 0, lambda: board.read_out_floats(two, words[:1]), two, board=board)
+        board = running(2)[0]
+        for count in (0, 1, 3):
+            other = array("H", [7] * count)
+            self.refused(16, 0, lambda: board.read_out_floats(two, other), two, other, board=board)
+        for entry in NOT_POSSIBLE:
+            for entries, place in (([128, entry], 1), ([entry, entry], 0)):
+                damaged = array("d", entries)
+                self.refused(14, place, lambda: board.read_out_floats(damaged, words), damaged, words, board=board)
+
     def test_a_board_that_is_not_sound(self) -> None:
-        sums, words = array("i", [7, 8]), array("H", [3, 4])
+        sums, floats, words = array("i", [7, 8]), array("d", [7, 8]), array("H", [3, 4])
         for at, word in ((0, 0), (2, 2), (2, -1), (3, 2), (4, 1), (5, 16), (5, 2**32 + 1), (14, 16_384), (15, 65_537), (16, 0)):
             numbers = list(Board(2, 1).words)
             numbers[at] = word
@@ -261,10 +333,12 @@ class Refusals(unittest.TestCase):
                 board.start,
                 lambda: board.feed(array("H", [20_000]), sums),
                 lambda: board.read_out(sums, words),
+                lambda: board.feed_floats(array("H", [20_000]), floats),
+                lambda: board.read_out_floats(floats, words),
                 board.drop,
                 board.covered,
             ):
-                self.refused(99, 0, call, sums, words, board=board)
+                self.refused(99, 0, call, sums, floats, words, board=board)
 
     def test_read_word(self) -> None:
         for truncation in (0, 4, 257, 258, 65_535):
@@ -327,17 +401,28 @@ class Errors(unittest.TestCase):
             right = memoryview(call.buffers[name]).format
             for code in "bBhHiIlLqQfd":
                 other = array(code, [1, 1])
-                if code != right and (code, other.itemsize, name) != ("l", 4, "sums"):
+                if code != right and (code, other.itemsize, right) != ("l", 4, "i"):
                     self.fails(TypeError, f"{name} {code!r} array", call, **{name: other})
             if right != "B":
                 for length in (3, 4, 8):
                     self.fails(TypeError, f"{name} 'B' bytes", call, **{name: bytes(length)})
             self.fails(TypeError, f"{name} '?'", call, **{name: memoryview(bytearray(2)).cast("?")})
 
+    def test_sums_of_the_other_kind(self) -> None:
+        """The error says which call takes them."""
+        for call, name in each_buffer():
+            others = {"feed": "feed_floats", "feed_floats": "feed", "read_out": "read_out_floats", "read_out_floats": "read_out"}
+            if name == "sums" and call.name in others:
+                other = array("d" if memoryview(call.buffers[name]).format == "i" else "i", [1, 1])
+                with self.assertRaisesRegex(TypeError, f"sums must be .* bits: {others[call.name]} takes these$"):
+                    call.make(sums=other)
+                with self.assertRaisesRegex(TypeError, r"sums must be .* with \d+ bits$"):
+                    call.make(sums=array("h", [1, 1]))
+
     def test_the_other_byte_order(self) -> None:
         for call, name in each_buffer():
             if name != "record":
-                item = ctypes.c_int32 if name == "sums" else ctypes.c_uint16
+                item = ITEMS[memoryview(call.buffers[name]).format]
                 other = item.__ctype_be__ if sys.byteorder == "little" else item.__ctype_le__
                 self.fails(TypeError, name, call, **{name: (other * 2)(1, 1)})
 
@@ -367,14 +452,14 @@ class Errors(unittest.TestCase):
 
     def test_a_single_item(self) -> None:
         for call, name in each_buffer():
-            item = {"record": ctypes.c_uint8, "sums": ctypes.c_int32}.get(name, ctypes.c_uint16)
+            item = ITEMS[memoryview(call.buffers[name]).format]
             self.fails(TypeError, f"{name} dimension", call, **{name: item(1)})
 
     def test_items_that_do_not_begin_where_they_may(self) -> None:
         for call, name in each_buffer():
             content = bytes(call.buffers[name])
             store = bytearray(len(content) + 8)
-            for shift in (1, 2, 3):
+            for shift in (1, 2, 3, 4):
                 view = memoryview(store)[shift : shift + len(content)]
                 view[:] = content
                 moved = same_items(call.buffers[name], view)
@@ -393,9 +478,10 @@ class Errors(unittest.TestCase):
     def share(self, call: Call, low: str, high: str) -> None:
         """A buffer that begins in another one fails; right behind it, it doesn't."""
         first, second = bytes(call.buffers[low]), bytes(call.buffers[high])
-        end = -(-len(first) // 4) * 4
+        step = max(4, memoryview(call.buffers[high]).itemsize)
+        end = -(-len(first) // step) * step
         store = memoryview(bytearray(first.ljust(end, b"\0") + second))
-        for start in range(0, end + 1, 4):
+        for start in range(0, end + 1, step):
             some = {low: same_items(call.buffers[low], store[: len(first)])}
             some[high] = same_items(call.buffers[high], store[start : start + len(second)])
             if start < end:
@@ -515,6 +601,18 @@ class Buffers(unittest.TestCase):
             for part in (record, readings, sums, words):
                 part.release()
 
+    def test_floats(self) -> None:
+        """A ramp of two pixels in every kind of buffer of floats, a read-only one for its frame."""
+        with mmap.mmap(-1, mmap.PAGESIZE) as pages, memoryview(pages) as view, view[8:24].cast("d") as mapped:
+            rows = memoryview(bytearray(16)).cast("d", (2, 1))
+            for floats in (array("d", [0, 0]), memoryview(bytearray(16)).cast("d"), (ctypes.c_double * 2)(), (ctypes.c_double * 1 * 2)(), rows, mapped):
+                (board, _), words = running(), array("H", [0, 0])
+                memoryview(floats).cast("B")[:] = b"\xff" * 16
+                board.feed_floats(array("H", [0, 16_383]), floats)
+                self.assertEqual(memoryview(floats).cast("B").cast("d").tolist(), [128, 16_511])
+                board.read_out_floats(memoryview(floats).toreadonly(), words)
+                self.assertEqual(words.tolist(), [32, 4127])
+
     def test_rows(self) -> None:
         """Two-dimensional views are their items in order, the last dimension fastest."""
         for shape in ((2, 3), (3, 2), (1, 6), (6, 1), (1, 2, 3)):
@@ -539,6 +637,9 @@ class Buffers(unittest.TestCase):
         for nothing in (array("i"), memoryview(bytearray()).cast("i"), (ctypes.c_int32 * 0)()):
             with self.assertRaisesRegex(Refused, "refused with 11:"):
                 board.read_out(nothing, array("H", [1, 1]))
+        for nothing in (array("d"), memoryview(bytearray()).cast("d"), (ctypes.c_double * 0)()):
+            with self.assertRaisesRegex(Refused, "refused with 11:"):
+                board.read_out_floats(nothing, array("H", [1, 1]))
         for nothing in (array("H"), memoryview(bytearray()).cast("H"), (ctypes.c_uint16 * 0)()):
             with self.assertRaisesRegex(Refused, "refused with 16:"):
                 board.read_out(sums, nothing)
@@ -553,6 +654,11 @@ class Buffers(unittest.TestCase):
                 address, count = lent.read("readings", nothing, ramp_board._UNSIGNED_16)
                 self.assertGreater(address, 0)
                 self.assertEqual(count, 0)
+
+    def test_no_float_beside_the_items_is_written(self) -> None:
+        (board, _), floats = running(), array("d", [7, 0, 0, 7])
+        board.feed_floats(array("H", [0, 16_383]), memoryview(floats)[1:3])
+        self.assertEqual(floats.tolist(), [7, 128, 16_511, 7])
 
     def test_nothing_beside_the_items_is_written(self) -> None:
         sums, words = array("i", [7, 0, 0, 7]), array("H", [7, 0, 0, 7])
@@ -592,6 +698,14 @@ class NumpyArrays(unittest.TestCase):
                 board.feed(row, sums)
         board.read_out(sums, words)
         self.assertEqual(sums.tolist(), (128 + readings[0] + 2 * readings[1]).tolist())
+        floats, float_words = numpy.full((3, 2), numpy.nan), numpy.zeros(6, dtype="uint16")
+        board.start()
+        for sample in readings:
+            for row in sample:
+                board.feed_floats(row, floats)
+        floats.flags.writeable = False
+        board.read_out_floats(floats, float_words)
+        self.assertEqual((floats.tolist(), float_words.tolist()), (sums.tolist(), words.tolist()))
         self.assertEqual(words.tolist(), (sums.ravel() // 4).tolist())
         self.assertEqual(pickle.loads(pickle.dumps(board)).words, board.words)
         self.assertEqual(Board.from_words(numpy.array(board.words)).words, board.words)
@@ -603,6 +717,14 @@ class NumpyArrays(unittest.TestCase):
         for readings in (good.astype("int16"), good.astype("float64"), good.astype("float16"), good.astype(good.dtype.newbyteorder())):
             with self.assertRaisesRegex(TypeError, "items of readings must be unsigned with 16 bits"):
                 board.feed(readings, sums)
+        with self.assertRaisesRegex(TypeError, "items of sums must be signed with 32 bits, .* with 64 bits: feed_floats takes these"):
+            board.feed(good, numpy.zeros(2))
+        for other, hint in (("int32", ": feed takes these"), ("int64", " bits$"), ("float32", " bits$"), (">f8", " bits$")):
+            if other != ">f8" or sys.byteorder == "little":
+                with self.assertRaisesRegex(TypeError, f"items of sums must be floats with 64 bits, .*{hint}"):
+                    board.feed_floats(good, numpy.zeros(2, dtype=other))
+        with self.assertRaisesRegex(ValueError, "sums"):
+            board.feed_floats(good, numpy.zeros(4)[::2])
         fours = numpy.zeros((2, 2), dtype="uint16")
         for readings in (fours[:, 0], fours.T, good[::-1]):
             with self.assertRaisesRegex(ValueError, "readings"):

@@ -123,6 +123,86 @@ fn a_ramp_in_parts() {
     }
 }
 
+/// The same ramps in floats, over floats that no sum is: the same whole numbers and the same word.
+#[test]
+fn a_ramp_in_floats() {
+    let mut board = Board::open(2, 2, true).unwrap();
+    board.update(&TWO_SAMPLES).unwrap();
+    for cut in 0..=8 {
+        let (mut sums, mut word) = ([f64::NAN, f64::INFINITY, 0.5, -0.0], [7; 1]);
+        assert_eq!(board.start(), Ok(()));
+        assert_eq!(board.feed_floats(&READINGS[..cut], &mut sums), Ok(()));
+        assert_eq!(board.feed_floats(&READINGS[cut..], &mut sums), Ok(()));
+        assert_eq!(board.read_out_floats(&sums, &mut word), Ok(()));
+        assert_eq!((sums, word), (SUMS.map(f64::from), SQUARE), "cut at {cut}");
+    }
+}
+
+/// A float is possible if it is a whole number that is; a product of -0 isn't seen, and an entry that gets no reading stays bit for bit.
+#[test]
+fn floats_that_are_not_possible() {
+    let not_possible = [
+        f64::NAN,
+        -f64::NAN,
+        f64::INFINITY,
+        f64::NEG_INFINITY,
+        -0.0,
+        0.25,
+        1323.5,
+        f64::MIN_POSITIVE,
+        f64::MAX,
+        491_619.0,
+        2_147_483_648.0,
+        4_294_968_619.0,
+    ];
+    for float in not_possible {
+        let bits = |sums: [f64; 4]| sums.map(f64::to_bits);
+        let damaged = [1323.0, 1_073_741_825.0, float, float];
+        let (mut sums, mut word) = (damaged, [7; 1]);
+        let (mut board, _) = fed(4);
+        let before = board.clone();
+        assert_eq!(board.feed_floats(&READINGS[4..], &mut sums), refused(14, 2));
+        assert_eq!((&board, bits(sums)), (&before, bits(damaged)), "{float}");
+        assert_eq!(board.feed_floats(&[0, 0], &mut sums), Ok(()));
+        assert_eq!(bits(sums), bits(damaged), "{float}");
+
+        let (mut board, _) = fed(8);
+        let before = board.clone();
+        assert_eq!(board.read_out_floats(&sums, &mut word), refused(14, 2));
+        assert_eq!((board, word), (before, [7]), "{float}");
+    }
+
+    let (mut board, mut word) = (Board::open(1, 1, false).unwrap(), [7; 1]);
+    let mut sums = [f64::NAN];
+    board.update(&[0x03, 0x08, 0x18, 0x10, 0x02]).unwrap(); // weights -8 and -0, N is 2
+    board.start().unwrap();
+    for _sample in 1..=2 {
+        board.feed_floats(&[16], &mut sums).unwrap();
+        assert_eq!(sums[0].to_bits(), 0);
+    }
+    assert_eq!(board.read_out_floats(&sums, &mut word), Ok(()));
+    assert_eq!(word, [0]);
+}
+
+#[test]
+fn refused_parts_in_floats() {
+    let (mut board, whole) = fed(7);
+    let (mut sums, mut word) = (whole.map(f64::from), [7; 1]);
+    let (before, kept) = (board.clone(), sums);
+    assert_eq!(board.feed_floats(&[1, 2], &mut sums), refused(12, 0));
+    assert_eq!(board.feed_floats(&[16_384], &mut sums), refused(13, 0));
+    assert_eq!(board.feed_floats(&[1], &mut sums[1..]), refused(11, 0));
+    assert_eq!(board.read_out_floats(&sums[1..], &mut word), refused(11, 0));
+    assert_eq!(board.read_out_floats(&sums, &mut word), refused(15, 0));
+    assert_eq!((&board, sums, word), (&before, kept, [7]));
+    assert_eq!(board.feed_floats(&READINGS[7..], &mut sums), Ok(()));
+    assert_eq!(board.read_out_floats(&sums, &mut []), refused(16, 0));
+    assert_eq!(board.read_out_floats(&sums, &mut word), Ok(()));
+    assert_eq!((sums, word), (SUMS.map(f64::from), SQUARE));
+    assert_eq!(board.read_out_floats(&sums, &mut word), refused(10, 0));
+    assert_eq!(board.feed_floats(&[], &mut sums), refused(10, 0));
+}
+
 #[test]
 fn refused_parts() {
     let (mut board, _) = fed(7);
@@ -205,19 +285,22 @@ fn words_that_hold_no_board() {
         words[at] = word;
         let mut board = Board::from_words(words);
         let (mut sums, mut square) = (SUMS, [7; 1]);
+        let mut floats = SUMS.map(f64::from);
         for answer in [
             board.update(&ONE_SAMPLE),
             board.start(),
             board.feed(&[], &mut sums),
             board.read_out(&SUMS, &mut square),
+            board.feed_floats(&[], &mut floats),
+            board.read_out_floats(&SUMS.map(f64::from), &mut square),
             board.drop_ramp(),
             board.covered().map(|_| ()),
         ] {
             assert_eq!(answer, refused(99, 0), "word {at} is {word}");
         }
         assert_eq!(
-            (*board.words(), sums, square),
-            (words, SUMS, [7]),
+            (*board.words(), sums, floats, square),
+            (words, SUMS, SUMS.map(f64::from), [7]),
             "word {at} is {word}"
         );
     }

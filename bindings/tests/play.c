@@ -21,8 +21,14 @@ struct sums {
     size_t count;
 };
 
+struct floats {
+    double at[MOST];
+    size_t count;
+};
+
 static ramp_board board = {{0, 0, 0, 0, 0, -4, -3, -2, -1, 0, 1, 2, 3, 4, 13087, 2, 9, -4, -3, -2, -1, 0, 1, 2, 3, 4, 13087, 2, 9}};
 static struct sums sums, spare;
+static struct floats floats, spare_floats;
 static uint16_t words[MOST];
 static size_t word_count;
 
@@ -64,6 +70,23 @@ static void print_sums(size_t start, size_t count) {
     }
 }
 
+/* A float as its pattern, in two numbers. All that is no number is shown as one pattern. */
+static void print_floats(size_t start, size_t count) {
+    if (start + count > floats.count) {
+        printf("outside\n");
+        return;
+    }
+    printf("taken\n");
+    for (size_t i = 0; i < count; i += 1) {
+        double entry = floats.at[start + i];
+        uint64_t pattern = 0x7FF8000000000000;
+        if (entry == entry) {
+            memcpy(&pattern, &entry, sizeof pattern);
+        }
+        printf("%" PRIu64 " %" PRIu64 "%s", pattern >> 32, pattern & UINT32_MAX, after(2 * i + 1, 2 * count));
+    }
+}
+
 /* ---- The calls on the board ---- */
 
 static void play_open(const long long *n) {
@@ -95,25 +118,27 @@ static void play_start(void) {
     print_answer(number, place);
 }
 
-static void play_feed(const uint16_t *readings, size_t count) {
+static void play_feed(const uint16_t *readings, size_t count, bool in_floats) {
     size_t place;
-    uint8_t number = ramp_feed(&board, RAMP_BOARD_WORDS, readings, count, sums.at, sums.count, &place);
+    uint8_t number = in_floats ? ramp_feed_floats(&board, RAMP_BOARD_WORDS, readings, count, floats.at, floats.count, &place)
+                               : ramp_feed(&board, RAMP_BOARD_WORDS, readings, count, sums.at, sums.count, &place);
     print_answer(number, place);
 }
 
-static void play_fill(size_t count, uint16_t reading) {
+static void play_fill(size_t count, uint16_t reading, bool in_floats) {
     uint16_t readings[MOST];
     for (size_t i = 0; i < count; i += 1) {
         readings[i] = reading;
     }
-    play_feed(readings, count);
+    play_feed(readings, count, in_floats);
 }
 
 /* A taken one leaves its frame as the words, a refused one the words that were there. */
-static void play_read_out(size_t count) {
+static void play_read_out(size_t count, bool in_floats) {
     uint16_t frame[MOST];
     size_t place;
-    uint8_t number = ramp_read_out(&board, RAMP_BOARD_WORDS, sums.at, sums.count, frame, count, &place);
+    uint8_t number = in_floats ? ramp_read_out_floats(&board, RAMP_BOARD_WORDS, floats.at, floats.count, frame, count, &place)
+                               : ramp_read_out(&board, RAMP_BOARD_WORDS, sums.at, sums.count, frame, count, &place);
     print_answer(number, place);
     if (number == 0) {
         word_count = count;
@@ -212,6 +237,40 @@ static void play_swap(void) {
     printf("taken\n");
 }
 
+/* ---- The floats ---- */
+
+/* The float of the pattern that stands in two numbers. */
+static double float_in(const long long *n) {
+    uint64_t pattern = (uint64_t)n[0] << 32 | (uint64_t)n[1];
+    double entry;
+    memcpy(&entry, &pattern, sizeof entry);
+    return entry;
+}
+
+static void play_floats(size_t count, double entry) {
+    floats.count = count;
+    for (size_t i = 0; i < count; i += 1) {
+        floats.at[i] = entry;
+    }
+    printf("taken\n");
+}
+
+static void play_poke_floats(size_t index, double entry) {
+    if (index >= floats.count) {
+        printf("outside\n");
+        return;
+    }
+    floats.at[index] = entry;
+    printf("taken\n");
+}
+
+static void play_swap_floats(void) {
+    struct floats old = floats;
+    floats = spare_floats;
+    spare_floats = old;
+    printf("taken\n");
+}
+
 /* ---- The script ---- */
 
 /* The numbers of a line, up to the limits of this program. */
@@ -245,11 +304,17 @@ static void play(const char *name, const struct numbers *numbers) {
     } else if (strcmp(name, "start") == 0) {
         play_start();
     } else if (strcmp(name, "feed") == 0) {
-        play_feed(shorts(n + 1, items), items);
+        play_feed(shorts(n + 1, items), items, false);
     } else if (strcmp(name, "fill") == 0) {
-        play_fill((size_t)n[0], (uint16_t)n[1]);
+        play_fill((size_t)n[0], (uint16_t)n[1], false);
     } else if (strcmp(name, "readout") == 0) {
-        play_read_out((size_t)n[0]);
+        play_read_out((size_t)n[0], false);
+    } else if (strcmp(name, "feed floats") == 0) {
+        play_feed(shorts(n + 1, items), items, true);
+    } else if (strcmp(name, "fill floats") == 0) {
+        play_fill((size_t)n[0], (uint16_t)n[1], true);
+    } else if (strcmp(name, "readout floats") == 0) {
+        play_read_out((size_t)n[0], true);
     } else if (strcmp(name, "drop") == 0) {
         play_drop();
     } else if (strcmp(name, "covered") == 0) {
@@ -270,14 +335,23 @@ static void play(const char *name, const struct numbers *numbers) {
         play_swap();
     } else if (strcmp(name, "print sums") == 0) {
         print_sums((size_t)n[0], (size_t)n[1]);
+    } else if (strcmp(name, "floats") == 0) {
+        play_floats((size_t)n[0], float_in(n + 1));
+    } else if (strcmp(name, "poke floats") == 0) {
+        play_poke_floats((size_t)n[0], float_in(n + 1));
+    } else if (strcmp(name, "swap floats") == 0) {
+        play_swap_floats();
+    } else if (strcmp(name, "print floats") == 0) {
+        print_floats((size_t)n[0], (size_t)n[1]);
     }
 }
 
-/* Plays a line, whose command word ends at its first space; print sums counts as one word. */
+/* Plays a line: one word or two, then numbers, each after a space. */
 static void play_line(char *line) {
     static struct numbers numbers;
     line[strcspn(line, "\n")] = '\0';
-    size_t length = strncmp(line, "print sums", 10) == 0 ? 10 : strcspn(line, " ");
+    size_t length = strcspn(line, "-0123456789");
+    length -= line[length] != '\0';
     read_numbers(line + length, &numbers);
     line[length] = '\0';
     play(line, &numbers);

@@ -5,10 +5,13 @@ docs/REPLAY.md has the scripts and the answers. The script must be well-formed.
 
 from __future__ import annotations
 
+import math
+import re
+import struct
 import sys
 from array import array
 from pathlib import Path
-from typing import Callable
+from typing import Callable, Sequence
 
 sys.path.insert(0, str(Path(__file__).resolve().parent.parent))
 
@@ -16,11 +19,22 @@ from ramp_board import Board, Negative, Ordinary, Refused, Saturated, count_flag
 
 DEFAULTS = (-4, -3, -2, -1, 0, 1, 2, 3, 4, 13_087, 2, 9)
 PER_LINE = 10
+NOT_A_NUMBER = (2_146_959_360, 0)
 
 
-def rows(numbers: array[int]) -> list[str]:
+def rows(numbers: Sequence[int]) -> list[str]:
     """Numbers, ten to a line."""
     return [" ".join(map(str, numbers[at : at + PER_LINE])) for at in range(0, len(numbers), PER_LINE)]
+
+
+def pattern_of(high: int, low: int) -> bytes:
+    """The float of this pattern, as it stands in memory."""
+    return struct.pack("=Q", high << 32 | low)
+
+
+def numbers_of(entry: float) -> tuple[int, int]:
+    """The pattern of a float in two numbers; all that is no number has one."""
+    return NOT_A_NUMBER if math.isnan(entry) else struct.unpack(">II", struct.pack(">d", entry))
 
 
 def meaning_of(word: int, truncation: int) -> str:
@@ -34,11 +48,12 @@ def meaning_of(word: int, truncation: int) -> str:
 
 
 class Player:
-    """A board, two buffers of sums and the words of a frame. Each command is a method that gives the lines it prints, or is refused."""
+    """A board, two buffers of sums, two of floats, and the words of a frame. Each command is a method that gives the lines it prints, or is refused."""
 
     def __init__(self) -> None:
         self.board = Board.from_words((0, 0, 0, 0, 0, *DEFAULTS, *DEFAULTS))
         self.sums, self.spare = array("i"), array("i")
+        self.floats, self.spare_floats = array("d"), array("d")
         self.words = array("H")
 
     # The commands after which the board is shown.
@@ -64,6 +79,18 @@ class Player:
     def read_out(self, count: int) -> list[str]:
         words = array("H", [0]) * count
         self.board.read_out(self.sums, words)
+        self.words = words
+        return rows(words)
+
+    def feed_floats(self, _count: int, *readings: int) -> None:
+        self.board.feed_floats(array("H", readings), self.floats)
+
+    def fill_floats(self, count: int, reading: int) -> None:
+        self.board.feed_floats(array("H", [reading]) * count, self.floats)
+
+    def read_out_floats(self, count: int) -> list[str]:
+        words = array("H", [0]) * count
+        self.board.read_out_floats(self.floats, words)
         self.words = words
         return rows(words)
 
@@ -97,6 +124,26 @@ class Player:
             return ["outside"]
         return ["taken", *rows(self.sums[start : start + count])]
 
+    def set_floats(self, length: int, high: int, low: int) -> list[str]:
+        self.floats = array("d", pattern_of(high, low) * length)
+        return ["taken"]
+
+    def poke_floats(self, index: int, high: int, low: int) -> list[str]:
+        if index >= len(self.floats):
+            return ["outside"]
+        memoryview(self.floats).cast("B")[8 * index : 8 * index + 8] = pattern_of(high, low)
+        return ["taken"]
+
+    def swap_floats(self) -> list[str]:
+        self.floats, self.spare_floats = self.spare_floats, self.floats
+        return ["taken"]
+
+    def print_floats(self, start: int, count: int) -> list[str]:
+        if start + count > len(self.floats):
+            return ["outside"]
+        numbers = [number for entry in self.floats[start : start + count] for number in numbers_of(entry)]
+        return ["taken", *rows(numbers)]
+
     def set_words(self, _count: int, *words: int) -> list[str]:
         self.words = array("H", words)
         return ["taken"]
@@ -121,6 +168,9 @@ CHANGES: dict[str, Callable[..., object]] = {
     "feed": Player.feed,
     "fill": Player.fill,
     "readout": Player.read_out,
+    "feed floats": Player.feed_floats,
+    "fill floats": Player.fill_floats,
+    "readout floats": Player.read_out_floats,
     "drop": Player.drop,
 }
 OTHERS: dict[str, Callable[..., list[str]]] = {
@@ -129,7 +179,11 @@ OTHERS: dict[str, Callable[..., list[str]]] = {
     "sums": Player.set_sums,
     "poke": Player.poke,
     "swap": Player.swap,
-    "print": Player.print_sums,
+    "print sums": Player.print_sums,
+    "floats": Player.set_floats,
+    "poke floats": Player.poke_floats,
+    "swap floats": Player.swap_floats,
+    "print floats": Player.print_floats,
     "words": Player.set_words,
     "nearest": Player.nearest,
     "count": Player.count,
@@ -138,8 +192,8 @@ OTHERS: dict[str, Callable[..., list[str]]] = {
 
 def answers(player: Player, line: str) -> list[str]:
     """What a line that holds a command prints."""
-    name, *texts = line.replace("print sums", "print").split(" ")
-    numbers = map(int, texts)
+    name, texts = re.fullmatch(r"([a-z]+(?: [a-z]+)?)(.*)", line).groups()
+    numbers = map(int, texts.split())
     try:
         given = CHANGES[name](player, *numbers) if name in CHANGES else OTHERS[name](player, *numbers)
     except Refused as refused:

@@ -23,6 +23,8 @@ fn main() -> io::Result<()> {
         board: Board::from_words(UNOPENED),
         sums: vec![],
         spare: vec![],
+        floats: vec![],
+        spare_floats: vec![],
         words: vec![],
         out: BufWriter::new(io::stdout().lock()),
     };
@@ -34,11 +36,13 @@ fn main() -> io::Result<()> {
     player.out.flush()
 }
 
-/// One board, the sums that are lent and the spare ones, and the words.
+/// One board, the sums that are lent and the spare ones, the same of floats, and the words.
 struct Player<W> {
     board: Board,
     sums: Vec<i32>,
     spare: Vec<i32>,
+    floats: Vec<f64>,
+    spare_floats: Vec<f64>,
     words: Vec<u16>,
     out: W,
 }
@@ -74,7 +78,18 @@ impl<W: Write> Player<W> {
             }
             ("feed", [_, readings @ ..]) => self.feed(&all_to::<u16>(readings)),
             ("fill", &[count, reading]) => self.feed(&vec![to(reading); to(count)]),
-            ("readout", &[count]) => self.read_out(to(count)),
+            ("readout", &[count]) => {
+                let mut frame = vec![0; to(count)];
+                let answer = self.board.read_out(&self.sums, &mut frame);
+                self.read_out(answer, frame)
+            }
+            ("feed floats", [_, readings @ ..]) => self.feed_floats(&all_to::<u16>(readings)),
+            ("fill floats", &[count, reading]) => self.feed_floats(&vec![to(reading); to(count)]),
+            ("readout floats", &[count]) => {
+                let mut frame = vec![0; to(count)];
+                let answer = self.board.read_out_floats(&self.floats, &mut frame);
+                self.read_out(answer, frame)
+            }
             ("drop", []) => {
                 let answer = self.board.drop_ramp();
                 self.show(answer)
@@ -100,6 +115,20 @@ impl<W: Write> Player<W> {
                 self.say(Ok("taken"))
             }
             ("print sums", &[start, count]) => self.print_sums(to(start), to(count)),
+            ("floats", &[length, high, low]) => {
+                self.floats = vec![float_of(high, low); to(length)];
+                self.say(Ok("taken"))
+            }
+            ("poke floats", &[index, high, low]) => {
+                let at = self.floats.get_mut(to::<usize>(index));
+                let poked = at.map(|old| *old = float_of(high, low));
+                self.say(Ok(poked.map_or("outside", |()| "taken")))
+            }
+            ("swap floats", []) => {
+                mem::swap(&mut self.floats, &mut self.spare_floats);
+                self.say(Ok("taken"))
+            }
+            ("print floats", &[start, count]) => self.print_floats(to(start), to(count)),
             ("words", [_, words @ ..]) => {
                 self.words = all_to(words);
                 self.say(Ok("taken"))
@@ -126,10 +155,13 @@ impl<W: Write> Player<W> {
         self.show(answer)
     }
 
-    /// Read out. A taken one leaves its frame as the words.
-    fn read_out(&mut self, count: usize) -> io::Result<()> {
-        let mut frame = vec![0; count];
-        let answer = self.board.read_out(&self.sums, &mut frame);
+    fn feed_floats(&mut self, readings: &[u16]) -> io::Result<()> {
+        let answer = self.board.feed_floats(readings, &mut self.floats);
+        self.show(answer)
+    }
+
+    /// A taken Read out leaves its frame as the words.
+    fn read_out(&mut self, answer: Result<(), Refusal>, frame: Vec<u16>) -> io::Result<()> {
         self.show(answer)?;
         if answer.is_ok() {
             self.words = frame;
@@ -143,6 +175,17 @@ impl<W: Write> Player<W> {
             Some(sums) => {
                 writeln!(self.out, "taken")?;
                 print_tens(&mut self.out, sums)
+            }
+            None => writeln!(self.out, "outside"),
+        }
+    }
+
+    fn print_floats(&mut self, start: usize, count: usize) -> io::Result<()> {
+        match self.floats.get(start..start + count) {
+            Some(floats) => {
+                writeln!(self.out, "taken")?;
+                let numbers: Vec<u64> = floats.iter().flat_map(numbers_of).collect();
+                print_tens(&mut self.out, &numbers)
             }
             None => writeln!(self.out, "outside"),
         }
@@ -169,6 +212,19 @@ fn meaning(read: WordRead) -> String {
         WordRead::Saturated(sample) => format!("sat {sample}"),
         WordRead::Negative => "neg".to_string(),
         WordRead::Unassigned => "none".to_string(),
+    }
+}
+
+/// The float of a pattern in two numbers.
+fn float_of(high: i64, low: i64) -> f64 {
+    f64::from_bits(u64::from(to::<u32>(high)) << 32 | u64::from(to::<u32>(low)))
+}
+
+/// The pattern of a float in two numbers; all that is no number has one.
+fn numbers_of(float: &f64) -> [u64; 2] {
+    match float.to_bits() {
+        _ if float.is_nan() => [2_146_959_360, 0],
+        pattern => [pattern >> 32, pattern & u64::from(u32::MAX)],
     }
 }
 

@@ -2,7 +2,11 @@
 
 from __future__ import annotations
 
+import math
 from typing import Sequence, TypeVar
+
+from floats import HALF, pattern_of
+from ramp import MARK
 
 Item = TypeVar("Item")
 MASK = (1 << 64) - 1
@@ -152,6 +156,32 @@ def draw_edge_ramp(draws: Draws, width: int, height: int, r: int) -> list[int]:
             for sample, reading in zip(samples, (large, large, 30 * large - above)):
                 sample.append(reading)
     return samples[0] + samples[1] + samples[2]
+
+
+# Floats that no sum is.
+FRACTIONS = (0.5, 0.25, 5e-324, 1 - 2.0**-53, 1 / 3, 127.5, 128.5, 128 + 2.0**-45, 2_211_832.5, MARK + 1.5, 2.0**52 - 0.5)
+LARGE = (2.0**31, 2.0**32, 2.0**32 + 128, 2.0**32 + MARK + 1, 2.0**51, 2.0**52, 1.5 * 2.0**52, 2.0**53, 2.0**63, 2.0**64, 1.7976931348623157e308)
+IMPOSSIBLE = (math.nan, math.inf, -math.inf, -0.0, *FRACTIONS, *LARGE, *(-entry for entry in FRACTIONS + LARGE))
+# Patterns of floats that are no number: the quiet one, signalling ones, with more bits in them, and with a sign.
+NOT_NUMBERS = (0x7FF8 << 48, (0x7FF0 << 48) + 1, 0x7FF4 << 48, 0x7FF8_0000_DEAD_BEEF, 0xFFF8 << 48, (0xFFF0 << 48) + HALF, 2**64 - 1)
+
+
+def draw_not_a_number(draws: Draws) -> int:
+    """A pattern of a float that is no number."""
+    any_of_them = draws.below(2) << 63 | 0x7FF << 52 | 1 + draws.below(2**52 - 1)
+    return draws.choose((*NOT_NUMBERS, any_of_them))
+
+
+def draw_bad_float(draws: Draws) -> float:
+    """A float that no sum is, of every kind alike."""
+    near = math.ldexp(2 * draws.below(2**21) + 1, -draws.between(1, 30))
+    kinds = ((math.nan,), (math.inf, -math.inf), (-0.0,), FRACTIONS, (near, -near), LARGE, IMPOSSIBLE)
+    return draws.choose(draws.choose(kinds))
+
+
+def draw_pattern(draws: Draws) -> int:
+    """The pattern of any float, most of one that no sum is."""
+    return draws.choose((draw_not_a_number(draws), pattern_of(draw_bad_float(draws)), draws.below(2**64)))
 
 
 LARGEST = 9_999_999_999  # of ten digits

@@ -6,8 +6,11 @@ board of these parts is sound. Every operation but Open is refused with 99 by an
 
 from __future__ import annotations
 
+import math
 from typing import Callable, NamedTuple, Optional, Union
 
+import floats
+from floats import float_of, pattern_of
 from ramp import Board, Refusal, open_board
 from replay import FLAG, SETTINGS, Range, board_numbers, board_of
 
@@ -19,7 +22,7 @@ WORDS = len(PARTS)
 class Call(NamedTuple):
     """An operation and what it brings: the sides and the binning of Open; the buffers of the others, with what they hold.
 
-    The buffer of Covered is one byte, which gets 1 or 0.
+    The buffer of Covered is one byte, which gets 1 or 0. Sums in floats are the patterns of their bits.
     """
 
     name: str
@@ -52,6 +55,19 @@ def covered(board: Board, answer: list[int]) -> Optional[Refusal]:
     return None
 
 
+def feed_floats(board: Board, readings: list[int], patterns: list[int]) -> Optional[Refusal]:
+    """Feed in floats. What it writes is a number: an entry that is none was left alone, with all its bits."""
+    sums = [float_of(pattern) for pattern in patterns]
+    refusal = floats.feed(board, readings, sums)
+    patterns[:] = [pattern if math.isnan(entry) else pattern_of(entry) for pattern, entry in zip(patterns, sums)]
+    return refusal
+
+
+def read_out_floats(board: Board, patterns: list[int], output: list[int]) -> Optional[Refusal]:
+    """Read out in floats."""
+    return floats.read_out(board, [float_of(pattern) for pattern in patterns], output)
+
+
 def opened(_board: Board) -> None:
     """Nothing is done to a board that was just opened."""
 
@@ -62,6 +78,8 @@ OPERATIONS: dict[str, Callable[..., Optional[Refusal]]] = {
     "start": Board.start,
     "feed": Board.feed,
     "read_out": Board.read_out,
+    "feed_floats": feed_floats,
+    "read_out_floats": read_out_floats,
     "drop": Board.drop,
     "covered": covered,
 }

@@ -2,9 +2,11 @@
 
 from __future__ import annotations
 
-from typing import Callable
+from typing import Callable, Sequence, Union
 
+import float_scenes
 import replay
+import sound_boards
 from draw_flags import (
     DENSITIES,
     FAR,
@@ -23,15 +25,18 @@ from draw_flags import (
 from draws import (
     EDGE_FIELDS,
     Draws,
+    draw_bad_float,
     draw_bad_record,
     draw_edge_ramp,
+    draw_not_a_number,
+    draw_pattern,
     draw_pixel,
     draw_ramp,
     draw_record,
     encode_record,
 )
-from ramp import MARK, MAX_PRODUCT, PEDESTAL, possible
-from sound_boards import SCENES, any_boards
+from floats import HALF, float_of
+from ramp import MARK, MAX_PRODUCT, PEDESTAL
 
 SMALL = ((1, 1), (2, 1), (1, 2), (2, 2), (3, 2), (4, 2), (5, 3), (4, 4), (6, 4))
 LARGE = ((64, 48), (64, 64), (48, 64), (1024, 4), (2, 1024), (1, 1024), (32, 32))
@@ -59,6 +64,8 @@ class Writer:
         self.player = replay.Player()
         self.lines: list[str] = []
         self.sides = (0, 0)  # of the frame that the words are
+        self.both = False  # each ramp is summed in one engine or the other
+        self.in_floats = False  # the sums in use are the floats
 
     def say(self, name: str, *numbers: int) -> str:
         """Add a command; its first answer line."""
@@ -69,11 +76,36 @@ class Writer:
             shown = values
         self.lines.append(" ".join([name, *map(str, shown)]))
         answer = self.player.play(name, values)[0]
-        if name == "readout" and answer == "taken":
+        if name in ("readout", "readout floats") and answer == "taken":
             board = self.player.board
             step = 2 if board.binned else 1
             self.sides = board.width // step, board.height // step
         return answer
+
+    # The commands with the sums in use.
+
+    @property
+    def sums(self) -> replay.Sums:
+        """The sums in use."""
+        return self.player.floats if self.in_floats else self.player.sums
+
+    def with_sums(self, name: str, *numbers: int) -> str:
+        """Add a command that does this with the sums in use."""
+        return self.say(replay.WITH_SUMS[name] if self.in_floats else name, *numbers)
+
+    def set_sums(self, length: int, entry: Union[int, float]) -> str:
+        """New sums in use, all of this entry."""
+        return self.with_sums("sums", length, *self.numbers_of(entry))
+
+    def poke(self, index: int, entry: Union[int, float]) -> str:
+        """One entry of the sums in use."""
+        return self.with_sums("poke", index, *self.numbers_of(entry))
+
+    def numbers_of(self, entry: Union[int, float]) -> Sequence[int]:
+        """The numbers of an entry; one that is no number is said by any of its patterns."""
+        if entry != entry:
+            return divmod(draw_not_a_number(self.draws), HALF)
+        return self.sums.numbers_of(entry)
 
     def bytes(self) -> bytes:
         """The script."""
@@ -93,10 +125,10 @@ class Writer:
         elif kind == 2:
             self.ask_flags()
         else:
-            length = len(self.player.sums)
+            length = len(self.sums.entries)
             start = draws.below(length + 1)
             count = draws.between(0, min(length - start + 1, 12))
-            self.say("print sums", start, count)
+            self.with_sums("print sums", start, count)
 
     def words(self, width: int, height: int, words: list[int]) -> None:
         """The words of a frame."""
@@ -126,24 +158,33 @@ class Writer:
     def open(self, width: int, height: int, binned: int) -> None:
         """A new board with sums of its length, of any content."""
         self.say("open", width, height, binned)
-        self.say("sums", width * height, self.any_entry())
+        self.set_sums(width * height, self.any_entry())
 
-    def any_entry(self) -> int:
+    def any_entry(self) -> Union[int, float]:
         """Any content of an entry, old marks included."""
         draws = self.draws
-        return draws.choose((0, -1, MARK, MARK + 3, 2**31 - 1, -(2**31), 128))
+        if self.in_floats and draws.chance(50):
+            return float_of(draw_pattern(draws))
+        entry = draws.choose((0, -1, MARK, MARK + 3, 2**31 - 1, -(2**31), 128))
+        return self.entry(entry)
 
-    def bad_entry(self, k: int) -> int:
+    def entry(self, number: int) -> Union[int, float]:
+        """The entry that a whole number is in the sums in use."""
+        return float(number) if self.in_floats else number
+
+    def bad_entry(self, k: int) -> Union[int, float]:
         """An entry that k samples cannot leave."""
+        if self.in_floats and self.draws.chance(70):
+            return draw_bad_float(self.draws)
         top, bottom = PEDESTAL + MAX_PRODUCT * k, PEDESTAL - MAX_PRODUCT * k
         marks = (MARK, MARK + k + 1, MARK + 10, MARK - 1, -MARK - 1)
         ends = (top + 1, bottom - 1, 2**31 - 1, -(2**31))
-        return self.draws.choose(marks + ends)
+        return self.entry(self.draws.choose(marks + ends))
 
-    def edge_entry(self, k: int) -> int:
+    def edge_entry(self, k: int) -> Union[int, float]:
         """An entry that k samples may leave, most at an edge."""
         top, bottom = PEDESTAL + MAX_PRODUCT * k, PEDESTAL - MAX_PRODUCT * k
-        return self.draws.choose((top, bottom, MARK + 1, MARK + k, 0, -1))
+        return self.entry(self.draws.choose((top, bottom, MARK + 1, MARK + k, 0, -1)))
 
     # The ramp.
 
@@ -166,23 +207,29 @@ class Writer:
         if count > 64 and draws.chance(90) or draws.chance(5):
             high = board.in_force.threshold
             value = draws.choose((high, min(high + 1, 16_383), draws.below(high + 1)))
-            return self.say("fill", count, value)
-        return self.say("feed", *self.readings(count))
+            return self.with_sums("fill", count, value)
+        return self.with_sums("feed", *self.readings(count))
 
-    def damaged(self, call: Callable[[], str], entries: dict[int, int]) -> None:
+    def damaged(
+        self, call: Callable[[], str], entries: dict[int, Union[int, float]]
+    ) -> None:
         """Damage entries, call, and mend them if they were not rewritten."""
-        sums = self.player.sums
-        before = {index: sums[index] for index in entries}
+        sums = self.sums
+        before = {index: sums.entries[index] for index in entries}
         for index, value in entries.items():
-            self.say("poke", index, value)
+            self.poke(index, value)
         call()
         for index, value in before.items():
-            if self.player.sums[index] == entries[index]:
-                self.say("poke", index, value)
+            now = sums.entries[index]
+            if sums.numbers_of(now) == sums.numbers_of(entries[index]):
+                self.poke(index, value)
 
     def refused_in_ramp(self) -> None:
         """A call that a running ramp refuses, or that comes near to it."""
         draws, board = self.draws, self.player.board
+        if self.both and draws.chance(20):
+            self.other_engine()
+            return
         kind = draws.below(10)
         if kind == 0:
             self.say("start")
@@ -190,12 +237,12 @@ class Writer:
             self.wrong_length()
         elif kind == 2 and board.wanted + 3 <= replay.MAX_COUNT:
             value = draws.choose((5, 5, 16_384))
-            self.say("fill", board.wanted + draws.between(1, 3), value)
+            self.with_sums("fill", board.wanted + draws.between(1, 3), value)
         elif kind == 3 and board.wanted > 0:
             self.bad_reading()
         elif kind == 4 and board.wanted > 0:
             words = board.words + draws.choose((0, 0, 1))
-            self.say("readout", min(words, replay.MAX_COUNT))
+            self.with_sums("readout", min(words, replay.MAX_COUNT))
         elif kind == 5:
             self.untouched_damage()
         elif kind == 6:
@@ -207,24 +254,43 @@ class Writer:
         """Sums of another length, with a feed or a read out, then the right ones."""
         draws, board = self.draws, self.player.board
         length = draws.choose((0, board.pixels + 1, board.pixels - 1))
-        self.say("swap")
-        self.say("sums", min(length, replay.MAX_COUNT), self.any_entry())
+        self.with_sums("swap")
+        self.set_sums(min(length, replay.MAX_COUNT), self.any_entry())
         if draws.chance(50):
             count = min(draws.choose((0, 1, board.wanted + 1)), replay.MAX_COUNT)
-            self.say("fill", count, draws.choose((9, 16_384)))
+            self.with_sums("fill", count, draws.choose((9, 16_384)))
         else:
-            self.say("readout", draws.choose((board.words, 0)))
-        self.say("swap")
+            self.with_sums("readout", draws.choose((board.words, 0)))
+        self.with_sums("swap")
 
     def other_sums(self) -> None:
         """Sums of the right length that this ramp did not write."""
         draws, board = self.draws, self.player.board
-        self.say("swap")
-        value = draws.choose((PEDESTAL, MARK + 1, self.edge_entry(1), self.any_entry()))
-        self.say("sums", board.pixels, value)
+        self.with_sums("swap")
+        values = [self.entry(PEDESTAL), self.entry(MARK + 1)]
+        values += [self.edge_entry(1), self.any_entry()]
+        self.set_sums(board.pixels, draws.choose(values))
         refused = self.feed(self.cut(replay.MAX_COUNT)) != "taken"
         if refused or draws.chance(50):
-            self.say("swap")
+            self.with_sums("swap")
+
+    def other_engine(self) -> None:
+        """A call with the sums of the other engine, in which the ramp goes on or not."""
+        draws, board = self.draws, self.player.board
+        before = self.sums.entries
+        self.in_floats = not self.in_floats
+        if len(self.sums.entries) != board.pixels or draws.chance(20):
+            self.set_sums(board.pixels, self.any_entry())
+        for index in range(min(board.pixels, 16)):
+            # What the other engine has there, if this one can have it.
+            if draws.chance(70) and abs(before[index]) < 2**31:
+                self.poke(index, self.entry(int(before[index])))
+        if draws.chance(70):
+            self.feed(self.cut(replay.MAX_COUNT))
+        else:
+            self.with_sums("readout", min(board.words, replay.MAX_COUNT))
+        if draws.chance(50):
+            self.in_floats = not self.in_floats
 
     def bad_reading(self) -> None:
         """One or more readings above 16,383, at any place."""
@@ -233,7 +299,7 @@ class Writer:
         readings = self.readings(count)
         for _ in range(draws.between(1, 3)):
             readings[draws.below(count)] = draws.choose((16_384, 32_768, 65_535))
-        self.say("feed", *readings)
+        self.with_sums("feed", *readings)
 
     def untouched_damage(self) -> None:
         """Damage an entry that the next feed brings nothing for."""
@@ -257,7 +323,7 @@ class Writer:
             written = board.fed // pixels + (index < board.fed % pixels)
             entries[index] = value(written if written else 1)
         if draws.chance(15):
-            self.damaged(lambda: self.say("fill", count, 16_384), entries)
+            self.damaged(lambda: self.with_sums("fill", count, 16_384), entries)
         else:
             self.damaged(lambda: self.feed(count), entries)
 
@@ -271,41 +337,49 @@ class Writer:
             wrong = min(board.words + 1, replay.MAX_COUNT - 1)
             words = draws.choose((0, wrong, board.words - 1))
             if kind == 0:
-                self.say("readout", words)
+                self.with_sums("readout", words)
             elif kind == 1:
                 entries = {index: self.bad_entry(samples)}
                 other = draws.below(board.pixels)
                 entries[other] = self.bad_entry(samples)
                 size = draws.choose((board.words, board.words, words))
-                self.damaged(lambda: self.say("readout", size), entries)
+                self.damaged(lambda: self.with_sums("readout", size), entries)
             elif kind == 2:
-                self.say("poke", index, self.edge_entry(samples))
+                self.poke(index, self.edge_entry(samples))
             else:
                 self.wrong_length()
         # Whatever damage is left must be possible, so that the frame is read out.
-        for index, entry in enumerate(list(self.player.sums)):
-            if not possible(entry, samples):
-                self.say("poke", index, 0)
+        for index, entry in enumerate(list(self.sums.entries)):
+            if not self.sums.engine.possible(entry, samples):
+                self.poke(index, self.entry(0))
         if draws.chance(40):
-            self.say("feed")
-        self.say("readout", board.words)
+            self.with_sums("feed")
+        self.with_sums("readout", board.words)
         for _ in range(draws.below(3)):
             self.ask_flags()
         if draws.chance(50):
-            self.say("print sums", 0, min(board.pixels, 20))
+            self.with_sums("print sums", 0, min(board.pixels, 20))
 
     def outside_ramp(self) -> None:
         """A call that needs a ramp when there is none, with good sums or others."""
         name = self.draws.choose(("feed", "fill", "readout", "drop"))
+        say = self.say if name == "drop" else self.with_sums
         words = min(self.player.board.words, replay.MAX_COUNT)
         numbers = {"fill": (1, 16_384), "readout": (words,)}
         if self.draws.chance(50):
-            self.say(name, *numbers.get(name, ()))
+            say(name, *numbers.get(name, ()))
         else:
-            self.say("swap")
-            self.say("sums", 0, 0)
-            self.say(name, *numbers.get(name, ()))
-            self.say("swap")
+            self.with_sums("swap")
+            self.set_sums(0, self.entry(0))
+            say(name, *numbers.get(name, ()))
+            self.with_sums("swap")
+
+    def choose_engine(self) -> None:
+        """Sum in one engine or the other, with sums of the board's length."""
+        self.in_floats = self.draws.chance(50)
+        pixels = self.player.board.pixels
+        if len(self.sums.entries) != pixels:
+            self.set_sums(pixels, self.any_entry())
 
     def ramp(self, trouble: int) -> None:
         """A ramp from start to read out or drop; trouble is a percentage."""
@@ -316,6 +390,8 @@ class Writer:
             self.outside_ramp()
         self.say("start")
         board = self.player.board
+        if self.both:
+            self.choose_engine()
         dropped = draws.chance(15)
         while board.wanted > 0:
             if draws.chance(trouble):
@@ -327,7 +403,7 @@ class Writer:
             if dropped and draws.chance(20):
                 break
             if self.feed(self.cut(replay.MAX_COUNT)) != "taken":
-                self.say("sums", board.pixels, PEDESTAL)
+                self.set_sums(board.pixels, self.entry(PEDESTAL))
         if dropped:
             self.say("drop")
         else:
@@ -341,13 +417,17 @@ def before_open(writer: Writer) -> None:
     draws = writer.draws
     writer.say("update", *draw_record(draws))
     writer.say("update")
-    for name in ("start", "feed", "drop", "covered"):
+    for name in ("start", "feed", "feed floats", "drop", "covered"):
         writer.say(name)
-    writer.say("fill", 1, 16_384)
-    writer.say("readout", draws.below(2))
+    for fill in ("fill", "fill floats"):
+        writer.say(fill, 1, 16_384)
+    for read_out in ("readout", "readout floats"):
+        writer.say(read_out, draws.below(2))
     writer.say("word", draws.choose(WORDS), 2)
     writer.say("poke", 0, 5)
+    writer.say("poke floats", 0, 0, 5)
     writer.say("swap")
+    writer.say("swap floats")
     writer.say("nearest", *draw_sides(draws), 0, 0)
     writer.say("count", *draw_sides(draws), 0, 0, 0, 0)
     writer.ask_flags()
@@ -365,8 +445,8 @@ def two_intervals(writer: Writer) -> None:
     writer.say("start")
     whole, part = draws.between(0, samples - 2), draws.between(1, pixels - 1)
     while board.fed < whole * pixels:
-        writer.say("feed", *writer.readings(pixels))
-    writer.say("feed", *writer.readings(part))
+        writer.with_sums("feed", *writer.readings(pixels))
+    writer.with_sums("feed", *writer.readings(part))
     low, high = draws.below(part), draws.between(part, pixels - 1)
     reach = pixels - part + low + 1  # the shortest feed that reaches the low entry
     count = draws.between(reach, pixels)
@@ -376,7 +456,7 @@ def two_intervals(writer: Writer) -> None:
     writer.damaged(lambda: writer.feed(count), {low: low_bad})
     writer.damaged(lambda: writer.feed(reach - 1), {low: low_bad})
     writer.damaged(lambda: writer.feed(1), {high: high_bad})
-    writer.say("print sums", 0, pixels)
+    writer.with_sums("print sums", 0, pixels)
     writer.say("drop")
 
 
@@ -393,7 +473,7 @@ def small_board(writer: Writer) -> None:
             two_intervals(writer)
         if draws.chance(30):
             writer.say("start")
-            writer.say("feed", *writer.readings(min(1, writer.player.board.wanted)))
+            writer.with_sums("feed", *writer.readings(min(1, writer.player.board.wanted)))
         if draws.chance(50):
             writer.say("open", *draws.choose(REFUSED))
             writer.say("start")
@@ -426,8 +506,8 @@ def middle_board(writer: Writer) -> None:
             if draws.chance(15):
                 writer.update()
             readings = ramp[board.fed : board.fed + writer.cut(board.wanted)]
-            if writer.say("feed", *readings) != "taken":
-                writer.say("sums", board.pixels, PEDESTAL)
+            if writer.with_sums("feed", *readings) != "taken":
+                writer.set_sums(board.pixels, writer.entry(PEDESTAL))
         writer.finish()
 
 
@@ -442,9 +522,27 @@ def large_board(writer: Writer) -> None:
     # Too large for any sums here: a feed of it is refused.
     writer.say("open", 1024, 1024, draws.below(2))
     writer.say("start")
-    writer.say("fill", draws.below(2), 1)
-    writer.say("readout", 1)
+    writer.with_sums("fill", draws.below(2), 1)
+    writer.with_sums("readout", 1)
     writer.say("drop")
+
+
+def both_engines(writer: Writer) -> None:
+    """Small boards, each ramp summed in whole numbers or in floats, or in both by turns."""
+    writer.both = True
+    small_board(writer)
+
+
+def middle_board_in_floats(writer: Writer) -> None:
+    """One board of a middle size, summed in floats."""
+    writer.in_floats = True
+    middle_board(writer)
+
+
+def large_board_in_floats(writer: Writer) -> None:
+    """One large board, summed in floats."""
+    writer.in_floats = True
+    large_board(writer)
 
 
 def many_words(writer: Writer) -> None:
@@ -599,6 +697,39 @@ MALFORMED = (
     "words 0 1",
     "words 1 65536",
     "words 1 -1",
+    "floats",
+    "floats 1",
+    "floats 1 0",
+    "floats 1 0 0 0",
+    "floats 4097 0 0",
+    "floats 1 4294967296 0",
+    "floats 1 0 4294967296",
+    "floats 1 -1 0",
+    "floats 1 0 -1",
+    "floats floats 1 0 0",
+    "poke floats 0 0",
+    "poke floats 4096 0 0",
+    "poke floats 0 0 4294967296",
+    "poke sums 0 0",
+    "swap floats 0",
+    "swap sums",
+    "print floats",
+    "print floats 0",
+    "print  floats 0 0",
+    "print floats 4097 0",
+    "feed floats",
+    "feed floats 1",
+    "feed floats 1 65536",
+    "feed floats 0 1",
+    "feed floats 4097",
+    "feed sums 0",
+    "fill floats 1",
+    "fill floats 4097 1",
+    "fill floats 1 65536",
+    "readout floats",
+    "readout floats 4097",
+    "drop floats",
+    "open floats 2 2 0",
     "nearest",
     "nearest 1 1 0",
     "nearest 1 1 0 0 0",
@@ -649,7 +780,11 @@ KINDS = (
     small_board,
     large_board,
     many_flags,
-    any_boards,
+    sound_boards.any_boards,
+    both_engines,
+    middle_board_in_floats,
+    both_engines,
+    large_board_in_floats,
 )
 
 
@@ -662,7 +797,7 @@ def played(scene: Callable[[Writer], None], draws: Draws) -> bytes:
 
 
 def make(seed: int, count: int) -> list[tuple[str, bytes, str]]:
-    """This many scripts with what they are called and their outputs; every tenth is malformed."""
+    """This many scripts with what they are called and their outputs; after one of each kind comes a malformed one."""
     draws = Draws(seed)
     made = []
     for index in range(count):
@@ -675,9 +810,10 @@ def make(seed: int, count: int) -> list[tuple[str, bytes, str]]:
     return made
 
 
-def sound() -> list[tuple[str, bytes, str]]:
-    """Scripts of every operation on boards of given numbers, one for each part of a sound board."""
-    scripts = [(scene.__name__, played(scene, Draws(0))) for scene in SCENES]
+def fixed() -> list[tuple[str, bytes, str]]:
+    """Scripts without draws: boards of given numbers, by the parts of a sound board, and sums in floats."""
+    scenes = (*sound_boards.SCENES, *float_scenes.SCENES)
+    scripts = [(scene.__name__, played(scene, Draws(0))) for scene in scenes]
     return [(name, script, replay.run(script)) for name, script in scripts]
 
 
@@ -691,8 +827,11 @@ def sized_board(writer: Writer, width: int, height: int, binned: int) -> None:
 def tour(seed: int) -> bytes:
     """One long script with every scene, and boards from the smallest to the largest."""
     writer = Writer(Draws(seed))
-    for scene in (before_open, many_words, middle_board, large_board, many_flags, any_boards):
+    for scene in (before_open, many_words, middle_board, large_board, many_flags, sound_boards.any_boards):
         scene(writer)
+    for scene in (float_scenes.floats_and_whole_numbers, float_scenes.floats_refused):
+        scene(writer)
+    writer.both = True
     for _ in range(8):
         small_board(writer)
     for sides in ((1, 1, 0), (2, 2, 1), (64, 48, 0), (64, 48, 1), (64, 64, 1)):

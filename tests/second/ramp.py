@@ -2,13 +2,16 @@
 
 The board keeps a ledger: sides, binning, waiting settings, settings in force,
 whether a ramp runs, and how many readings were fed in it. Operations answer None when
-taken and a Refusal when not; buffers are changed in place, only when taken.
+taken and a Refusal when not; buffers are changed in place, only when taken. Feed and
+Read out are those of an engine: of whole numbers here, of floats in floats.py.
 """
 
 from __future__ import annotations
 
 from dataclasses import dataclass
-from typing import NamedTuple, Optional, Sequence, Union
+from typing import Callable, Generic, NamedTuple, Optional, Sequence, TypeVar, Union
+
+Entry = TypeVar("Entry", int, float)
 
 MAX_SIDE = 1_024
 MAX_READING = 16_383
@@ -120,6 +123,17 @@ def entry_after(
         return MARK + over[0]
     base = PEDESTAL if first == 1 else entry
     return base + sum(settings.weights[n - 1] * reading for n, reading in numbered)
+
+
+@dataclass(frozen=True)
+class Engine(Generic[Entry]):
+    """A way to sum: which entries k samples can leave, and what samples make of one."""
+
+    possible: Callable[[Entry, int], bool]
+    entry_after: Callable[[Entry, int, Sequence[int], Settings], Entry]
+
+
+WHOLE_NUMBERS = Engine(possible, entry_after)
 
 
 def word_of(entries: Sequence[int], truncation: int) -> int:
@@ -244,7 +258,13 @@ class Board:
         return first, readings[skipped :: self.pixels]
 
     def feed(self, readings: Sequence[int], sums: list[int]) -> Optional[Refusal]:
-        """Bring the next readings of the ramp into the sums."""
+        """Feed, with sums in whole numbers."""
+        return self.feed_in(WHOLE_NUMBERS, readings, sums)
+
+    def feed_in(
+        self, engine: Engine[Entry], readings: Sequence[int], sums: list[Entry]
+    ) -> Optional[Refusal]:
+        """Bring the next readings of the ramp into the sums of an engine."""
         if not self.sound():
             return Refusal(99)
         if not self.running:
@@ -258,16 +278,24 @@ class Board:
                 return Refusal(13, index)
         for pixel, entry in enumerate(sums):
             first, samples = self.samples_for(pixel, readings)
-            if samples and first > 1 and not possible(entry, first - 1):
+            if samples and first > 1 and not engine.possible(entry, first - 1):
                 return Refusal(14, pixel)
         for pixel, entry in enumerate(sums):
             first, samples = self.samples_for(pixel, readings)
             if samples:
-                sums[pixel] = entry_after(entry, first, samples, self.in_force)
+                sums[pixel] = engine.entry_after(
+                    entry, first, samples, self.in_force
+                )
         self.fed += len(readings)
         return None
 
     def read_out(self, sums: Sequence[int], output: list[int]) -> Optional[Refusal]:
+        """Read out, of sums in whole numbers."""
+        return self.read_out_in(WHOLE_NUMBERS, sums, output)
+
+    def read_out_in(
+        self, engine: Engine[Entry], sums: Sequence[Entry], output: list[int]
+    ) -> Optional[Refusal]:
         """Write the frame of a full ramp into the output and end the ramp."""
         if not self.sound():
             return Refusal(99)
@@ -280,10 +308,11 @@ class Board:
         if len(output) != self.words:
             return Refusal(16)
         for pixel, entry in enumerate(sums):
-            if not possible(entry, self.in_force.samples):
+            if not engine.possible(entry, self.in_force.samples):
                 return Refusal(14, pixel)
+        whole = [int(entry) for entry in sums]
         output[:] = frame_of(
-            sums, self.width, self.height, self.binned, self.in_force.truncation
+            whole, self.width, self.height, self.binned, self.in_force.truncation
         )
         self.end_ramp()
         return None

@@ -7,11 +7,13 @@ from __future__ import annotations
 
 import re
 import sys
-from typing import Optional, Union
+from dataclasses import dataclass, field
+from typing import Callable, Generic, Optional, Sequence, Union
 
 from flags import Place, count_flags, nearest_flag
+from floats import FLOATS, float_of_halves, halves_of
 from jig import meaning
-from ramp import Board, Refusal, Settings, open_board
+from ramp import WHOLE_NUMBERS, Board, Engine, Entry, Refusal, Settings, open_board
 
 MAX_SCRIPT = 262_144
 MAX_COUNT = 4_096
@@ -21,12 +23,14 @@ Range = tuple[int, int]
 COUNT: Range = (0, MAX_COUNT)
 U16: Range = (0, 65_535)
 BYTE: Range = (0, 255)
+INDEX: Range = (0, MAX_COUNT - 1)
 I32: Range = (-(2**31), 2**31 - 1)
+U32: Range = (0, 2**32 - 1)
 ANY: Range = (0, 10**10 - 1)  # all that ten digits can say
 FLAG: Range = (0, 1)
 SETTINGS: tuple[Range, ...] = (I32,) * 9 + (U16,) * 3
 
-# The ranges of each command's numbers.
+# The ranges of each command's numbers. A name has one word or two.
 NUMBERS: dict[str, tuple[Range, ...]] = {
     "open": (U16, U16, FLAG),
     "board": (ANY, ANY, FLAG, FLAG, ANY, *SETTINGS, *SETTINGS),
@@ -37,15 +41,33 @@ NUMBERS: dict[str, tuple[Range, ...]] = {
     "covered": (),
     "word": (U16, BYTE),
     "sums": (COUNT, I32),
-    "poke": ((0, MAX_COUNT - 1), I32),
+    "poke": (INDEX, I32),
     "swap": (),
     "print sums": (COUNT, COUNT),
+    "fill floats": (COUNT, U16),
+    "readout floats": (COUNT,),
+    "floats": (COUNT, U32, U32),
+    "poke floats": (INDEX, U32, U32),
+    "swap floats": (),
+    "print floats": (COUNT, COUNT),
     "nearest": (ANY,) * 4,
     "count": (ANY,) * 6,
 }
 
 # The range of each item in the commands that carry a list.
-ITEMS: dict[str, Range] = {"update": BYTE, "feed": U16, "words": U16}
+ITEMS: dict[str, Range] = {"update": BYTE, "feed": U16, "feed floats": U16, "words": U16}
+
+# The commands with the sums, by what they do, and those that do the same with the floats.
+WITH_SUMS: dict[str, str] = {
+    "feed": "feed floats",
+    "fill": "fill floats",
+    "readout": "readout floats",
+    "sums": "floats",
+    "poke": "poke floats",
+    "swap": "swap floats",
+    "print sums": "print floats",
+}
+WITH_FLOATS = {name: done for done, name in WITH_SUMS.items()}
 
 BOARD_COMMANDS = ("open", "board", "update", "start", "feed", "fill", "readout", "drop")
 
@@ -62,8 +84,9 @@ def parse_number(text: str, limits: Range) -> Optional[int]:
 def parse_line(line: str) -> Optional[Command]:
     """The command on a line, or None if it is malformed."""
     parts = line.split(" ")
-    if parts[:2] == ["print", "sums"]:
-        parts[:2] = ["print sums"]
+    two_words = " ".join(parts[:2])
+    if two_words in NUMBERS or two_words in ITEMS:
+        parts[:2] = [two_words]
     name, texts = parts[0], parts[1:]
     if name in ITEMS:
         count = parse_number(texts[0], COUNT) if texts else None
@@ -145,20 +168,55 @@ def answer(refusal: Optional[Refusal]) -> str:
     return f"refused {refusal.number} {refusal.place}"
 
 
+@dataclass
+class Sums(Generic[Entry]):
+    """Sums of an engine and spare ones, and the numbers by which a script says an entry."""
+
+    engine: Engine[Entry]
+    entry_of: Callable[..., Entry]
+    numbers_of: Callable[[Entry], Sequence[int]]
+    entries: list[Entry] = field(default_factory=list)
+    spare: list[Entry] = field(default_factory=list)
+
+    def handle(self, name: str, numbers: list[int]) -> list[str]:
+        """Replace, damage, exchange or print the sums."""
+        if name == "sums":
+            self.entries = [self.entry_of(*numbers[1:])] * numbers[0]
+        elif name == "swap":
+            self.entries, self.spare = self.spare, self.entries
+        elif name == "poke":
+            if numbers[0] >= len(self.entries):
+                return ["outside"]
+            self.entries[numbers[0]] = self.entry_of(*numbers[1:])
+        else:
+            end = numbers[0] + numbers[1]
+            if end > len(self.entries):
+                return ["outside"]
+            shown = self.entries[numbers[0] : end]
+            return ["taken", *rows([n for entry in shown for n in self.numbers_of(entry)])]
+        return ["taken"]
+
+
 class Player:
-    """One board, two sums buffers and words, and the commands that act on them."""
+    """One board, sums, floats and words, and the commands that act on them."""
 
     def __init__(self) -> None:
         self.board = Board()
-        self.sums: list[int] = []
-        self.spare: list[int] = []
+        self.sums = Sums(WHOLE_NUMBERS, int, lambda entry: (entry,))
+        self.floats = Sums(FLOATS, float_of_halves, halves_of)
         self.words: list[int] = []
 
     def play(self, name: str, numbers: list[int]) -> list[str]:
         """Carry out a command and give the lines it prints."""
+        if name in WITH_FLOATS:
+            return self.do(WITH_FLOATS[name], numbers, self.floats)
+        return self.do(name, numbers, self.sums)
+
+    def do(self, name: str, numbers: list[int], sums: Sums[Entry]) -> list[str]:
+        """Carry out a command with these sums."""
         if name in BOARD_COMMANDS:
             output = [0] * numbers[0] if name == "readout" else []
-            refusal = self.call(name, numbers, output)
+            refusal = self.call(name, numbers, sums, output)
             if name == "readout" and refusal is None:
                 self.words = output
             shown = rows(output) if refusal is None else []
@@ -176,10 +234,10 @@ class Player:
             return ["taken"]
         if name in ("nearest", "count"):
             return [self.ask_flags(name, numbers)]
-        return self.handle_sums(name, numbers)
+        return sums.handle(name, numbers)
 
     def call(
-        self, name: str, numbers: list[int], output: list[int]
+        self, name: str, numbers: list[int], sums: Sums[Entry], output: list[int]
     ) -> Optional[Refusal]:
         """Make a call that may change the board."""
         if name == "open":
@@ -196,11 +254,12 @@ class Player:
         if name == "start":
             return self.board.start()
         if name == "feed":
-            return self.board.feed(numbers, self.sums)
+            return self.board.feed_in(sums.engine, numbers, sums.entries)
         if name == "fill":
-            return self.board.feed([numbers[1]] * numbers[0], self.sums)
+            readings = [numbers[1]] * numbers[0]
+            return self.board.feed_in(sums.engine, readings, sums.entries)
         if name == "readout":
-            return self.board.read_out(self.sums, output)
+            return self.board.read_out_in(sums.engine, sums.entries, output)
         return self.board.drop()
 
     def ask_flags(self, name: str, numbers: list[int]) -> str:
@@ -214,23 +273,6 @@ class Player:
             return "no flag" if found is None else answer(found)
         flags = count_flags(self.words, width, height, first, last)
         return answer(flags) if isinstance(flags, Refusal) else f"flags {flags}"
-
-    def handle_sums(self, name: str, numbers: list[int]) -> list[str]:
-        """Replace, damage, exchange or print the sums."""
-        if name == "sums":
-            self.sums = [numbers[1]] * numbers[0]
-        elif name == "swap":
-            self.sums, self.spare = self.spare, self.sums
-        elif name == "poke":
-            if numbers[0] >= len(self.sums):
-                return ["outside"]
-            self.sums[numbers[0]] = numbers[1]
-        else:
-            end = numbers[0] + numbers[1]
-            if end > len(self.sums):
-                return ["outside"]
-            return ["taken", *rows(self.sums[numbers[0] : end])]
-        return ["taken"]
 
 
 def run(data: bytes) -> str:

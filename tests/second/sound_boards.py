@@ -5,6 +5,7 @@ from __future__ import annotations
 from typing import TYPE_CHECKING, Callable, Iterator
 
 from draws import LARGEST, draw_board
+from floats import halves_of
 from replay import MAX_COUNT, board_numbers
 
 if TYPE_CHECKING:
@@ -93,17 +94,25 @@ def calls(writer: Writer) -> list[Callable[[], str]]:
         lambda: writer.say("feed"),
         lambda: writer.say("feed", 500),
         lambda: writer.say("readout", words),
+        lambda: writer.say("feed floats", 500),
+        lambda: writer.say("readout floats", words),
         lambda: writer.say("drop"),
         lambda: writer.say("start"),
     ]
 
 
+def lend_sums(writer: Writer, length: int) -> None:
+    """Sums and floats of this length, all 128, where they haven't got it."""
+    if len(writer.player.sums.entries) != length:
+        writer.say("sums", length, 128)
+    if len(writer.player.floats.entries) != length:
+        writer.say("floats", length, *halves_of(128.0))
+
+
 def every_call(writer: Writer, numbers: list[int]) -> list[str]:
     """The answers of every operation on one board, which is set anew after a change."""
     writer.say("board", *numbers)
-    pixels = writer.player.board.pixels
-    if len(writer.player.sums) != min(pixels, MAX_COUNT):
-        writer.say("sums", min(pixels, MAX_COUNT), 128)
+    lend_sums(writer, min(writer.player.board.pixels, MAX_COUNT))
     answers = []
     for call in calls(writer):
         if board_numbers(writer.player.board) != numbers:
@@ -133,7 +142,7 @@ def any_boards(writer: Writer) -> None:
     for _ in range(draws.between(4, 10)):
         writer.say("board", *draw_board(draws))
         pixels = writer.player.board.pixels
-        writer.say("sums", draws.choose((min(pixels, MAX_COUNT), 4)), 128)
+        lend_sums(writer, draws.choose((min(pixels, MAX_COUNT), 4)))
         for _ in range(draws.between(1, 6)):
             draws.choose((*calls(writer), writer.update, writer.ask, lambda: fill(writer)))()
 

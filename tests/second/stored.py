@@ -18,7 +18,7 @@ import replay
 
 ROOT = Path(__file__).resolve().parent.parent.parent
 SEED = 1
-SCRIPTS = 20
+SCRIPTS = 28
 
 Case = tuple[str, bytes, str]
 
@@ -38,7 +38,7 @@ def made() -> Iterator[tuple[Path, bytes]]:
         yield crate / "stdin", given
         yield crate / "stdout", program.run(given).encode("ascii")
     inputs = make_jig.make(SEED, len(make_jig.KINDS))
-    scripts = make_replay.make(SEED, SCRIPTS) + make_replay.sound()
+    scripts = make_replay.make(SEED, SCRIPTS) + make_replay.fixed()
     for program, cases in (("jig", inputs), ("replay", scripts)):
         for name, given, text in named(cases):
             stem = ROOT / "tests" / "stored" / program / name

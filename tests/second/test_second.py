@@ -2,12 +2,15 @@
 
 from __future__ import annotations
 
+import math
 import re
 import subprocess
 import sys
 import unittest
 from pathlib import Path
+from typing import Callable, NamedTuple, Optional, Union
 
+import floats
 import jig
 import make_jig
 import make_replay
@@ -27,8 +30,22 @@ from draw_flags import (
     wrong_sides,
     wrong_words,
 )
-from draws import Draws, draw_bad_record, draw_board, draw_ramp, draw_record, encode_record
+from draws import (
+    FRACTIONS,
+    IMPOSSIBLE,
+    NOT_NUMBERS,
+    Draws,
+    draw_bad_float,
+    draw_bad_record,
+    draw_board,
+    draw_not_a_number,
+    draw_pattern,
+    draw_ramp,
+    draw_record,
+    encode_record,
+)
 from flags import Place, count_flags, is_flag, nearest_flag
+from floats import MINUS_ZERO, NOT_A_NUMBER, float_of, float_of_halves, halves_of, pattern_of
 from lent_board import PARTS, WORDS, Call, Left, board_in, made
 from ramp import (
     MARK,
@@ -53,6 +70,19 @@ JIG_EXAMPLE_OUTPUT = (
 )
 
 
+class Calls(NamedTuple):
+    """An engine's calls, and its entry for a whole number."""
+
+    feed: Callable[..., Optional[Refusal]]
+    read_out: Callable[..., Optional[Refusal]]
+    entry: Callable[[int], Union[int, float]]
+
+
+WHOLE_NUMBERS = Calls(Board.feed, Board.read_out, int)
+FLOATS = Calls(floats.feed, floats.read_out, float)
+ENGINES = (WHOLE_NUMBERS, FLOATS)
+
+
 def opened(width: int, height: int, binned: bool = False) -> Board:
     """A board that Open must take."""
     board = open_board(width, height, binned)
@@ -60,14 +90,22 @@ def opened(width: int, height: int, binned: bool = False) -> Board:
     return board
 
 
-def one_pixel(fields: dict[int, int], readings: list[int]) -> tuple[int, int]:
-    """The sum and the word of a ramp on a board of one pixel."""
-    board, sums, output = opened(1, 1), [0], [0]
+def summed(engine: Calls, fields: dict[int, int], readings: list[int]) -> tuple[Union[int, float], int]:
+    """The sum and the word of a ramp on a board of one pixel, in an engine."""
+    board, sums, output = opened(1, 1), [engine.entry(0)], [0]
     assert board.update(encode_record(fields)) is None
     assert board.start() is None
-    assert board.feed(readings, sums) is None
-    assert board.read_out(sums, output) is None
+    assert engine.feed(board, readings, sums) is None
+    assert engine.read_out(board, sums, output) is None
     return sums[0], output[0]
+
+
+def one_pixel(fields: dict[int, int], readings: list[int]) -> tuple[int, int]:
+    """The sum and the word of a ramp on a board of one pixel, the same in both engines."""
+    entry, word = summed(WHOLE_NUMBERS, fields, readings)
+    in_floats, same_word = summed(FLOATS, fields, readings)
+    assert pattern_of(in_floats) == pattern_of(float(entry)) and same_word == word
+    return int(entry), word
 
 
 def feed_one_by_one(
@@ -203,52 +241,64 @@ class Refusals(unittest.TestCase):
             Board(1, 1, running=True, fed=10),
         ]
         for board in unsound:
-            answers = [board.update([]), board.start(), board.feed([], [])]
-            answers += [board.read_out([], []), board.drop(), board.covered()]
-            self.assertEqual(answers, [Refusal(99)] * 6)
+            answers = [board.update([]), board.start(), board.drop(), board.covered()]
+            for feed, read_out, _ in ENGINES:
+                answers += [feed(board, [], []), read_out(board, [], [])]
+            self.assertEqual(answers, [Refusal(99)] * 8)
 
     def test_order_without_a_ramp(self) -> None:
         board = opened(2, 1)
-        self.assertEqual(board.feed([20_000] * 99, []), Refusal(10))
-        self.assertEqual(board.read_out([], []), Refusal(10))
+        for feed, read_out, _ in ENGINES:
+            self.assertEqual(feed(board, [20_000] * 99, []), Refusal(10))
+            self.assertEqual(read_out(board, [], []), Refusal(10))
         self.assertEqual(board.drop(), Refusal(10))
 
     def test_order_in_a_ramp(self) -> None:
-        board, bad = opened(2, 1), MARK
+        self.check_order(WHOLE_NUMBERS, MARK)
+        for bad in (float(MARK), *IMPOSSIBLE):
+            self.check_order(FLOATS, bad)
+
+    def check_order(self, engine: Calls, bad: Union[int, float]) -> None:
+        """The order in an engine, with an entry that no samples can leave."""
+        feed, read_out, entry = engine
+        board = opened(2, 1)
         board.start()
         self.assertEqual(board.start(), Refusal(9))
-        self.assertEqual(board.feed([20_000] * 99, []), Refusal(11))
-        self.assertEqual(board.feed([20_000] * 19, [0, 0]), Refusal(12))
+        self.assertEqual(feed(board, [20_000] * 99, []), Refusal(11))
+        self.assertEqual(feed(board, [20_000] * 19, [bad, bad]), Refusal(12))
         sums = [bad, bad]
-        self.assertIsNone(board.feed([1, 2], sums))
-        self.assertEqual(board.feed([1, 20_000, 20_001], [bad, bad]), Refusal(13, 1))
-        self.assertEqual(board.feed([1, 2], [bad, bad]), Refusal(14, 0))
-        self.assertEqual(board.feed([1], [128, bad]), None)
+        self.assertIsNone(feed(board, [1, 2], sums))
+        self.assertEqual(feed(board, [1, 20_000, 20_001], [bad, bad]), Refusal(13, 1))
+        self.assertEqual(feed(board, [1, 2], [bad, bad]), Refusal(14, 0))
+        self.assertIsNone(feed(board, [1], [entry(128), bad]))
         # Pixel 0 has two samples, pixel 1 has one; a feed of two starts at pixel 1.
         low = PEDESTAL - 2 * MAX_PRODUCT
-        self.assertEqual(board.feed([1, 2], [low - 1, bad]), Refusal(14, 0))
-        self.assertEqual(board.feed([1, 2], [low, MARK + 2]), Refusal(14, 1))
-        self.assertEqual(board.feed([1], [bad, low]), Refusal(14, 1))
-        self.assertIsNone(board.feed([], [bad, bad]))
-        self.assertEqual(board.read_out([], []), Refusal(11))
-        self.assertEqual(board.read_out([bad, bad], []), Refusal(15))
-        self.assertIsNone(board.feed([0] * 15, sums))
-        self.assertIsNone(board.feed([], [bad, bad]))
-        self.assertEqual(board.read_out([bad, bad], [0]), Refusal(16))
+        self.assertEqual(feed(board, [1, 2], [entry(low - 1), bad]), Refusal(14, 0))
+        sums_of_one = [entry(low), entry(MARK + 2)]
+        self.assertEqual(feed(board, [1, 2], sums_of_one), Refusal(14, 1))
+        self.assertEqual(feed(board, [1], [bad, entry(low)]), Refusal(14, 1))
+        self.assertIsNone(feed(board, [], [bad, bad]))
+        self.assertEqual(read_out(board, [], []), Refusal(11))
+        self.assertEqual(read_out(board, [bad, bad], []), Refusal(15))
+        self.assertIsNone(feed(board, [0] * 15, sums))
+        self.assertIsNone(feed(board, [], [bad, bad]))
+        self.assertEqual(read_out(board, [bad, bad], [0]), Refusal(16))
         output = [9, 9]
-        self.assertEqual(board.read_out([0, bad], output), Refusal(14, 1))
+        self.assertEqual(read_out(board, [entry(0), bad], output), Refusal(14, 1))
         self.assertEqual(output, [9, 9])
-        self.assertIsNone(board.read_out([0, MARK + 9], output))
+        self.assertIsNone(read_out(board, [entry(0), entry(MARK + 9)], output))
         self.assertEqual(output, [0, 32_761])
 
     def test_read_out_knows_its_samples(self) -> None:
-        board, top = opened(1, 1), PEDESTAL + 2 * MAX_PRODUCT
-        board.update([0, 8, 2])
-        board.start()
-        board.feed([1, 1], [0])
-        for entry in (top + 1, MARK, MARK + 3, 256 - top - 1):
-            self.assertEqual(board.read_out([entry], [0]), Refusal(14, 0))
-        self.assertIsNone(board.read_out([top], [0]))
+        top = PEDESTAL + 2 * MAX_PRODUCT
+        for feed, read_out, number in ENGINES:
+            board = opened(1, 1)
+            board.update([0, 8, 2])
+            board.start()
+            feed(board, [1, 1], [number(0)])
+            for entry in (top + 1, MARK, MARK + 3, 256 - top - 1):
+                self.assertEqual(read_out(board, [number(entry)], [0]), Refusal(14, 0))
+            self.assertIsNone(read_out(board, [number(top)], [0]))
 
     def test_words(self) -> None:
         for truncation in (0, 4, 255):
@@ -351,6 +401,112 @@ class Properties(unittest.TestCase):
             before = repr(board)
             self.assertIsNotNone(board.feed(readings, sums))
             self.assertEqual((sums, repr(board)), ([1, 2, 3, 4], before))
+
+
+class Floats(unittest.TestCase):
+    """Sums in floats."""
+
+    def test_patterns(self) -> None:
+        known = {0.0: 0, 128.0: 0x4060 << 48, -1.0: 0xBFF0 << 48, math.inf: 0x7FF0 << 48}
+        for entry, pattern in known.items():
+            self.assertEqual((pattern_of(entry), float_of(pattern)), (pattern, entry))
+        self.assertEqual(pattern_of(-0.0), MINUS_ZERO)
+        self.assertEqual(halves_of(float(MARK + 1)), (0x41D0_0000, 0x0040_0000))
+        draws = Draws(30)
+        for _ in range(500):
+            pattern = draws.below(2**64)
+            entry = float_of_halves(*divmod(pattern, 2**32))
+            self.assertEqual(pattern_of(entry), NOT_A_NUMBER if math.isnan(entry) else pattern)
+            self.assertTrue(math.isnan(float_of(draw_not_a_number(draws))))
+        for pattern in NOT_NUMBERS:
+            self.assertTrue(math.isnan(float_of(pattern)))
+
+    def test_possible(self) -> None:
+        draws = Draws(31)
+        for k in range(1, 10):
+            for entry in (*IMPOSSIBLE, *(draw_bad_float(draws) for _ in range(200))):
+                self.assertFalse(floats.possible(entry, k), entry)
+            reach = MAX_PRODUCT * k
+            marks = range(MARK - 1, MARK + 11)
+            for number in (PEDESTAL - reach, PEDESTAL + reach, 0, 1, -1, *marks):
+                for near in (number - 1, number, number + 1):
+                    self.assertEqual(floats.possible(float(near), k), possible(near, k))
+                for fraction in (number - 0.5, number + 0.25, math.nextafter(number, math.inf)):
+                    self.assertFalse(floats.possible(fraction, k))
+        self.assertTrue(all(not entry.is_integer() for entry in FRACTIONS))
+
+    def test_every_sum_is_the_exact_whole_number(self) -> None:
+        draws = Draws(32)
+        for _ in range(300):
+            width, height = 2 * draws.between(1, 3), 2 * draws.between(1, 3)
+            boards = [opened(width, height, draws.chance(50))]
+            boards.append(opened(width, height, boards[0].binned))
+            record = draw_record(draws)
+            for board in boards:
+                board.update(record)
+                board.start()
+            pixels, settings = boards[0].pixels, boards[0].in_force
+            ramp = draw_ramp(draws, pixels, settings.samples, settings.threshold)
+            sums, in_floats = [0] * pixels, [float_of(draw_pattern(draws)) for _ in range(pixels)]
+            for (feed, _, _), board, entries in zip(ENGINES, boards, (sums, in_floats)):
+                while board.wanted > 0:
+                    count = draws.below(min(board.wanted, 2 * pixels) + 1)
+                    self.assertIsNone(feed(board, ramp[board.fed : board.fed + count], entries))
+            self.assertEqual([pattern_of(entry) for entry in in_floats], [pattern_of(float(entry)) for entry in sums])
+            frames = [[0] * board.words for board in boards]
+            for (_, read_out, _), board, entries, frame in zip(ENGINES, boards, (sums, in_floats), frames):
+                self.assertIsNone(read_out(board, entries, frame))
+            self.assertEqual(*frames)
+            self.assertEqual(*boards)
+
+    def test_no_minus_zero(self) -> None:
+        # Products of minus zero: on 128, on 0 and on 128 again.
+        for fields, readings, entry in (
+            ({0: 16, 11: 1}, [5], 128),
+            ({0: 17, 11: 1}, [0], 128),
+            ({0: 17, 11: 1}, [128], 0),
+            ({0: 17, 1: 17, 11: 2}, [128, 0], 0),
+            ({0: 17, 1: 0, 2: 31, 11: 3}, [128, 9, 0], 0),
+        ):
+            self.assertEqual(pattern_of(summed(FLOATS, fields, readings)[0]), pattern_of(float(entry)))
+
+    def test_entries_without_a_reading_stay(self) -> None:
+        for pattern in (*NOT_NUMBERS, *(pattern_of(entry) for entry in IMPOSSIBLE)):
+            board, entry = opened(3, 1), float_of(pattern)
+            board.start()
+            sums = [entry, entry, entry]
+            self.assertIsNone(floats.feed(board, [1, 2], sums))
+            self.assertEqual(sums[:2], [124.0, 120.0])
+            self.assertIs(sums[2], entry)
+            self.assertIsNone(floats.feed(board, [], sums))
+            # Sample 1 of the last, sample 2 of the first, while the second may be anything.
+            sums[1] = entry
+            self.assertIsNone(floats.feed(board, [3, 4], sums))
+            self.assertEqual((sums[0], sums[2]), (112.0, 116.0))
+            self.assertIs(sums[1], entry)
+            self.assertEqual(floats.feed(board, [5], sums), Refusal(14, 1))
+
+    def test_another_engine_in_a_ramp(self) -> None:
+        for (feed, _, first), (other_feed, other_read_out, other) in (ENGINES, ENGINES[::-1]):
+            board, sums, output = opened(1, 1), [first(7)], [0]
+            board.update(encode_record({11: 2}))
+            board.start()
+            self.assertIsNone(feed(board, [1_000], sums))
+            for number in (PEDESTAL + MAX_PRODUCT + 1, MARK + 2, -(2**31)):
+                self.assertEqual(other_feed(board, [1], [other(number)]), Refusal(14, 0))
+            others = [other(MARK + 1)]
+            self.assertIsNone(other_feed(board, [1], others))
+            self.assertIsNone(other_read_out(board, others, output))
+            self.assertEqual((sums, others, output), ([-3_872], [MARK + 1], [32_753]))
+
+    def test_a_refused_feed_changes_nothing(self) -> None:
+        board = opened(2, 2)
+        board.start()
+        sums = [math.nan, -0.0, 0.5, 3.0]
+        before = [pattern_of(entry) for entry in sums]
+        for readings in ([5] * 37, [1, 2, 16_384]):
+            self.assertIsNotNone(floats.feed(board, readings, sums))
+            self.assertEqual(([pattern_of(entry) for entry in sums], board.fed), (before, 0))
 
 
 def drawn(rows: str) -> tuple[list[int], int, int]:
@@ -637,6 +793,19 @@ class Replay(unittest.TestCase):
         self.assertEqual(replay.run(b"#" * 262_144), "")
         self.assertEqual(replay.run(b"\n\n# \xff\n\nfoo"), "malformed line 5\n")
 
+    def test_each_malformed_line(self) -> None:
+        for line in make_replay.MALFORMED:
+            self.assertEqual(replay.run(line.encode("ascii")), "malformed line 1\n", line)
+
+    def test_floats(self) -> None:
+        script = "floats 2 1080033280 0\npoke floats 1 4294967295 4294967295\npoke floats 2 0 0\nprint floats 0 2\nswap floats\n"
+        script += "print floats 0 1\nprint floats 0 0\nfloats 6 2147483648 1\nswap floats\nprint floats 0 02\nswap floats\nprint floats 0 6\n"
+        expected = ["taken", "taken", "outside", "taken", "1080033280 0 2146959360 0", "taken", "outside", "taken", "taken", "taken", "taken"]
+        expected += ["1080033280 0 2146959360 0", "taken", "taken", "2147483648 1 " * 4 + "2147483648 1", "2147483648 1"]
+        self.assertEqual(replay.run(script.encode("ascii")).splitlines(), expected)
+        # Sums and floats are apart.
+        self.assertEqual(replay.run(b"sums 2 5\nfloats 1 0 0\nswap\nprint floats 0 1\nprint sums 0 1\n"), "taken\n" * 4 + "0 0\noutside\n")
+
     def test_the_words_and_their_flags(self) -> None:
         script = "open 4 2 1\nstart\nsums 8 0\n" + "fill 8 9\n" * 8 + "feed 8"
         script += " 9" * 8 + "\npoke 2 -999\n"
@@ -670,8 +839,9 @@ class Replay(unittest.TestCase):
         self.check_refusals([make_replay.tour(1)])
 
     def check_refusals(self, scripts: list[bytes]) -> None:
-        """Every number is answered, 14 at an entry of each kind, and all of flags."""
+        """Every number is answered, in both engines, 14 at an entry of each kind, and all of flags."""
         seen: set[int] = set()
+        seen_of_floats: set[int] = set()
         intervals: set[str] = set()
         flags: set[str] = set()
         for script in scripts:
@@ -687,12 +857,16 @@ class Replay(unittest.TestCase):
                     kind = re.match(r"flags?|no flag|refused \d+", line)
                     flags.add(f"{name} {kind and kind[0]}")
                 if first[0] == "refused":
-                    seen.add(int(first[1]))
+                    in_floats = name in replay.WITH_FLOATS
+                    (seen_of_floats if in_floats else seen).add(int(first[1]))
                     if first[1] == "14":
-                        low = name != "readout" and int(first[2]) < fed % pixels
-                        intervals.add(name if name == "readout" else str(low))
+                        kind = "floats" if in_floats else "sums"
+                        low = "readout" in name or int(first[2]) < fed % pixels
+                        intervals.add(f"{kind} {'readout' if 'readout' in name else low}")
         self.assertEqual(seen, {*range(1, 17), 19, 99})
-        self.assertEqual(intervals, {"readout", "True", "False"})
+        self.assertEqual(seen_of_floats, {*range(10, 17), 99})
+        kinds = {f"{kind} {where}" for kind in ("sums", "floats") for where in ("readout", True, False)}
+        self.assertEqual(intervals, kinds)
         answers = {"nearest flag", "nearest no flag", "count flags"}
         for name in ("nearest", "count"):
             answers |= {f"{name} refused 16", f"{name} refused 19"}
@@ -733,7 +907,26 @@ class LentBoards(unittest.TestCase):
         sums = [PEDESTAL] * board.pixels
         calls = [Call("update", ([0, 8, 2],)), Call("start"), Call("feed", ([5], sums))]
         calls += [Call("read_out", (sums, [0] * board.words)), Call("drop"), Call("covered", ([7],))]
+        patterns = [pattern_of(float(PEDESTAL))] * board.pixels
+        calls += [Call("feed_floats", ([5], patterns)), Call("read_out_floats", (patterns, [0] * board.words))]
         return calls
+
+    def done(self, call: Call, board: Board, buffers: list[list[int]]) -> Optional[Refusal]:
+        """The call on the board itself."""
+        if call.name == "covered":
+            found = board.covered()
+            refusal = found if isinstance(found, Refusal) else None
+            buffers[0] = [7 if refusal else int(found is True)]
+            return refusal
+        if not call.name.endswith("floats"):
+            return getattr(board, call.name)(*buffers)
+        feeds = call.name == "feed_floats"
+        sums = [float_of(pattern) for pattern in buffers[1 if feeds else 0]]
+        if not feeds:
+            return floats.read_out(board, sums, buffers[1])
+        refusal = floats.feed(board, buffers[0], sums)
+        buffers[1] = [pattern_of(entry) for entry in sums]
+        return refusal
 
     def test_a_call_does_what_it_does_on_the_board(self) -> None:
         draws = Draws(25)
@@ -746,13 +939,7 @@ class LentBoards(unittest.TestCase):
                 continue
             for call in self.calls(board):
                 other, buffers = replay.board_of(words), [list(buffer) for buffer in call.buffers]
-                if call.name == "covered":
-                    found = other.covered()
-                    refusal = found if isinstance(found, Refusal) else None
-                    buffers = [[7 if refusal else int(found is True)]]
-                else:
-                    refusal = getattr(other, call.name)(*buffers)
-                answer = refusal or Refusal(0)
+                answer = self.done(call, other, buffers) or Refusal(0)
                 left = Left(*answer, replay.board_numbers(other), buffers)
                 self.assertEqual(made(call, words), left)
 
@@ -773,6 +960,18 @@ class LentBoards(unittest.TestCase):
         for words in ([], good[:-1], [*good, 0], good * 2):
             for call in (*self.calls(opened(2, 1)), Call("open", sides=(0, 0, True)), Call("open", sides=(2, 1, False))):
                 self.assertEqual(made(call, words), Left(99, 0, words, list(call.buffers)))
+
+    def test_bits_of_floats_that_are_left_alone(self) -> None:
+        board = opened(3, 1)
+        board.start()
+        words = replay.board_numbers(board)
+        for pattern in NOT_NUMBERS:
+            left = made(Call("feed_floats", ([1], [pattern] * 3)), words)
+            self.assertEqual((left.number, left.buffers[1]), (0, [pattern_of(124.0), pattern, pattern]))
+            again = made(Call("feed_floats", ([1, 1, 1], left.buffers[1])), left.words)
+            self.assertEqual((again.number, again.buffers[1]), (0, [pattern_of(float(124 - 3)), *[pattern_of(124.0)] * 2]))
+            refused = made(Call("feed_floats", ([1, 1, 1], [pattern] * 3)), left.words)
+            self.assertEqual(refused, Left(14, 0, left.words, [[1, 1, 1], [pattern] * 3]))
 
     def test_open_does_not_look(self) -> None:
         for word in (0, -1, 2**63 - 1):

@@ -13,7 +13,7 @@ use Rattle.board.specs.declared.Board.{Board}
 use Rattle.board.specs.Open.{open_of}
 use Rattle.operations.specs.Feed.{feed_of, fed_sums}
 use Rattle.operations.specs.Covered.{coverage_of}
-use Rattle.history.specs.Calls.{Call, update, start, feed, read_out, Ledger, fresh, view_of, ledger_answer, next, opening}
+use Rattle.history.specs.Calls.{whole_sums, Call, update, start, feed, read_out, Ledger, fresh, view_of, ledger_answer, next, opening}
 use Rattle.history.specs.Readings.{ramp_of, frame_from}
 use Rattle.history.specs.Demands.{Every, Demand1, FrameClaim}
 use Rattle.history.proofs.Demands.{demands}
@@ -31,7 +31,7 @@ module _ (w h : ℕ) (binned : Bool) (bytes xs : List ℕ) (sums : List ℤ) (ou
   left = fed_sums b xs sums
 
   abbrev calls : List Call
-  calls = update bytes ∷ start ∷ feed xs sums ∷ read_out left output ∷ []
+  calls = update bytes ∷ start ∷ feed xs (whole_sums sums) ∷ read_out (whole_sums left) output ∷ []
 
   abbrev halves : ((begin_of w h binned bytes).answer ≡ Ok tt) × (frame_answer_on b xs sums output ≡ Ok tt)
   halves = both_taken (begin_of w h binned bytes).answer _ (sym (frame_is w h binned bytes xs sums output) ∙ taken)
@@ -57,22 +57,22 @@ module _ (w h : ℕ) (binned : Bool) (bytes xs : List ℕ) (sums : List ℤ) (ou
   start_taken : ledger_answer (next (fresh w h binned) (update bytes)) start ≡ Ok tt
   start_taken = sym answers.1.0.answer ∙ first_three.2
 
-  feed_taken : ledger_answer (next (next (fresh w h binned) (update bytes)) start) (feed xs sums) ≡ Ok tt
+  feed_taken : ledger_answer (next (next (fresh w h binned) (update bytes)) start) (feed xs (whole_sums sums)) ≡ Ok tt
   feed_taken = sym answers.1.1.0.answer ∙ last_two.0
 
-  read_out_taken : ledger_answer ℓ (read_out left output) ≡ Ok tt
+  read_out_taken : ledger_answer ℓ (read_out (whole_sums left) output) ≡ Ok tt
   read_out_taken = sym answers.1.1.1.0.answer ∙ last_two.1
 
   pub words_are : frame_words w h binned bytes xs sums output ≡ frame_from (ramp_of (ledger_of w h binned bytes xs sums))
   unfolding frame_words
   words_are =
       rw taken
-      ((demands.demand_2 w h binned first_three.0 calls).1.1.1.0 left output
+      ((demands.demand_2 w h binned first_three.0 calls).1.1.1.0 (whole_sums left) output
       (record { brings = refl; taken = read_out_taken; handed_on = rw (feed_taken, start_taken) (tt, refl) }))
 
   pub frame_claim : coverage_of (view_of (ledger_of w h binned bytes xs sums)) ≡ Ok true → FrameClaim (ramp_of (ledger_of w h binned bytes xs sums)) (Ok tt) (frame_words w h binned bytes xs sums output)
   unfolding frame_words
   frame_claim c =
       rw (taken)
-      (rw last_two.1 at ((demands.demand_3.frames w h binned first_three.0 calls).1.1.1.0 (rw answers.1.1.1.0.before c) left output
+      (rw last_two.1 at ((demands.demand_3.frames w h binned first_three.0 calls).1.1.1.0 (rw answers.1.1.1.0.before c) (whole_sums left) output
       (record { brings = refl; taken = read_out_taken; handed_on = rw (feed_taken, start_taken) (tt, refl) })))

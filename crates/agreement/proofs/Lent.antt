@@ -27,13 +27,15 @@ use Rattle.board.specs.Kept.{refused99}
 use Rattle.board.proofs.Laws as BoardLaws
 use Rattle.operations.specs.Update.{update_of}
 use Rattle.operations.specs.Ramp.{start_of, drop_of}
-use Rattle.operations.specs.Feed.{feed_of, fed_sums}
-use Rattle.operations.specs.ReadOut.{read_out_of, read_out_words}
+use Rattle.operations.specs.Feed.{feed_in, fed_sums_in}
+use Rattle.operations.specs.ReadOut.{read_out_in, read_out_words_in}
 use Rattle.operations.proofs.Laws as OperationLaws
 use Rattle.history.specs.Calls.{Question, Call, update, start, feed, read_out, drop, ask, covered, Reply, refused_given, reply_of, answer_of, outcome_of, given_by_board, State, after, opening}
 use Rattle.history.specs.Demands.{Every, AtSome, Always, SaidCovered, NoFalseWord, WaitingStays}
 use Rattle.history.proofs.Ledgers.{call_sound}
+use Rattle.history.specs.Engines.{EqualFrames}
 use Rattle.history.proofs.Demands.{demands}
+use Rattle.history.proofs.Engines.{engine_claims}
 use Rattle.board_words.specs.Words.{board_length, words_of, held}
 use Rattle.board_words.proofs.Laws as WordsLaws
 use Rattle.lent_board.specs.Lent.{words_left, open_answer, opened_words}
@@ -45,8 +47,8 @@ use Rattle.agreement.specs.Lent.{words_after, found_in, EveryLent, AtSomeLent, A
 call_99 : (b : Board) → sound b ≡ false → (c : Call) → outcome_of b c ≡ refused99 b
 call_99 b s (update bytes) = ((OperationLaws.laws).unsound_99 b s).update bytes
 call_99 b s start = ((OperationLaws.laws).unsound_99 b s).start
-call_99 b s (feed xs sums) = (((OperationLaws.laws).unsound_99 b s).feed xs sums).0
-call_99 b s (read_out sums output) = (((OperationLaws.laws).unsound_99 b s).read_out sums output).0
+call_99 b s (feed xs sums) = (((OperationLaws.laws).unsound_99 b s).feed sums.kind xs sums.entries).0
+call_99 b s (read_out sums output) = (((OperationLaws.laws).unsound_99 b s).read_out sums.kind sums.entries output).0
 call_99 b s drop = ((OperationLaws.laws).unsound_99 b s).drop
 call_99 b s (ask covered) = rw ((OperationLaws.laws).unsound_99 b s).covered
 
@@ -54,7 +56,7 @@ answer_99 : (b : Board) → sound b ≡ false → (c : Call) → (outcome_of b c
 answer_99 b s c = ap (λ (o : Outcome). o.answer) (call_99 b s c)
 
 refused_board : (b : Board) (c : Call) (r : Refusal) → (outcome_of b c).answer ≡ Err r → (outcome_of b c).board ≡ b
-unfolding update_of start_of feed_of read_out_of drop_of
+unfolding update_of start_of feed_in read_out_in drop_of
 refused_board b (update bytes) r e = rw e
 refused_board b start r e = rw e
 refused_board b (feed xs sums) r e = rw e
@@ -68,7 +70,7 @@ no_reply (Ok reply) r e = cc
 no_reply (Err q) r e = refl
 
 refused_given_lem : (b : Board) (c : Call) (r : Refusal) → (outcome_of b c).answer ≡ Err r → given_by_board b c ≡ refused_given c
-unfolding feed_of fed_sums read_out_of read_out_words
+unfolding feed_in fed_sums_in read_out_in read_out_words_in
 refused_given_lem b (update bytes) r e = refl
 refused_given_lem b start r e = refl
 refused_given_lem b (feed xs sums) r e = rw e
@@ -190,6 +192,16 @@ defaults_covered w h binned words t calls stay =
     (opened_lists (λ at c. SaidCovered at × NoFalseWord at c) w h binned words t calls).0
     (demands.defaults_covered.frames w h binned (open_taken words w h binned t) calls ((opened_lists WaitingStays w h binned words t calls).1 stay))
 
+every_of : {P Q : State → Call → Type 0} → ((at : State) (c : Call) → P at c → Q at c) → (at : State) (calls : List Call) → Every P at calls → Every Q at calls
+every_of f at [] p = tt
+every_of f at (c ∷ calls) p = (f at c p.0, every_of f (after at c) calls p.1)
+
+equal_frames : AlwaysLent (λ at c. AlwaysLent (λ other d. EqualFrames at c other d))
+equal_frames =
+    always_lent _
+    (λ w h binned t calls.
+    every_of (λ at c. always_lent (λ other d. EqualFrames at c other d)) (opening w h binned) calls (engine_claims.equal_frames w h binned t calls))
+
 pub laws : LentLaws
 laws = record {
   open_answers = open_answers;
@@ -208,4 +220,6 @@ laws = record {
   handed_on_possible = always_lent _ demands.handed_on_possible;
   any_ramp_follows = always_lent _ demands.any_ramp_follows;
   defaults_covered = defaults_covered;
+  stored_exactly = always_lent _ engine_claims.stored_exactly;
+  equal_frames = equal_frames;
 }

@@ -8,10 +8,11 @@ use Rattle.board.specs.Board.{sound}
 use Rattle.board.specs.Open.{open_of}
 use Rattle.operations.specs.Update.{update_of}
 use Rattle.operations.specs.Ramp.{start_of, drop_of}
-use Rattle.operations.specs.Feed.{feed_of}
-use Rattle.operations.specs.ReadOut.{read_out_of}
-use Rattle.history.specs.Calls.{Call, update, start, feed, read_out, drop, ask, refused_given, outcome_of, given_by_board, State, after, opening}
+use Rattle.operations.specs.Feed.{feed_in}
+use Rattle.operations.specs.ReadOut.{read_out_in}
+use Rattle.history.specs.Calls.{engine, Call, update, start, feed, read_out, drop, ask, refused_given, outcome_of, given_by_board, State, after, opening}
 use Rattle.history.specs.Demands.{Every, AtSome, Demand1, RefusedChangesNothing, Sound, Demand2, SaidCovered, NoFalseWord, HandedOnPossible, AnyRampFollows, WaitingStays}
+use Rattle.history.specs.Engines.{StoredExactly, EqualFrames}
 use Rattle.board_words.specs.Words.{board_length, words_of, held}
 use Rattle.lent_board.specs.Lent.{words_left, open_answer, opened_words}
 
@@ -21,8 +22,8 @@ use Rattle.lent_board.specs.Lent.{words_left, open_answer, opened_words}
 abbrev pub words_after : List ℤ → Call → List ℤ
 words_after words (update bytes) = words_left (update_of (held words) bytes) words
 words_after words start = words_left (start_of (held words)) words
-words_after words (feed readings sums) = words_left (feed_of (held words) readings sums) words
-words_after words (read_out sums output) = words_left (read_out_of (held words) sums output) words
+words_after words (feed readings sums) = words_left (feed_in (engine sums) (held words) readings sums.entries) words
+words_after words (read_out sums output) = words_left (read_out_in (engine sums) (held words) sums.entries output) words
 words_after words drop = words_left (drop_of (held words)) words
 words_after words (ask question) = words
 
@@ -62,7 +63,7 @@ pub record LentLaws : Type 1 where
   -- the words that a taken Open left hold the board that it gives
   pub opened_reads_back : (words : List ℤ) (w h : ℕ) (binned : Bool) → open_answer words w h binned ≡ Ok tt
       → held (opened_words words w h binned) ≡ (open_of w h binned).board
-  -- those that a call words_left, taken or refused, hold the board that it leaves, whatever they were before
+  -- those that a call leaves, taken or refused, hold the board that it leaves, whatever they were before
   pub reads_back : (words : List ℤ) (c : Call) → held (words_after words c) ≡ (outcome_of (held words) c).board
   -- a refused call writes nothing, and a refused Open leaves every word
   pub refused_leaves : (words : List ℤ) (c : Call) (r : Refusal) → (outcome_of (held words) c).answer ≡ Err r → NothingWritten words c
@@ -88,3 +89,6 @@ pub record LentLaws : Type 1 where
   pub defaults_covered : (w h : ℕ) (binned : Bool) (words : List ℤ) → open_answer words w h binned ≡ Ok tt → (calls : List Call)
       → EveryLent WaitingStays (opening w h binned) (opened_words words w h binned) calls
       → EveryLent (λ at c. SaidCovered at × NoFalseWord at c) (opening w h binned) (opened_words words w h binned) calls
+  -- and what is true of both engines
+  pub stored_exactly : AlwaysLent StoredExactly
+  pub equal_frames : AlwaysLent (λ at c. AlwaysLent (λ other d. EqualFrames at c other d))

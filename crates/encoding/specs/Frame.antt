@@ -1,6 +1,7 @@
 -- Which pixels a word is made of, and the frame of the sums.
-use Rattle.std.specs.Prelude.{ℕ, ◌+◌, ◌*◌, ◌/◌, ◌%◌, Bool, true, false, List, [], ◌∷◌, map, ℤ, pos, length, get_or}
+use Rattle.std.specs.Prelude.{ℕ, ◌+◌, ◌*◌, ◌/◌, ◌%◌, Bool, true, false, List, [], ◌∷◌, map, ℤ, length, get_or}
 use Rattle.laws.specs.Lists.{each}
+use Rattle.engines.specs.Engine.{Engine, in_whole_numbers}
 use Rattle.encoding.specs.Word.{word_of}
 
 -- rows and columns are counted from 0, and pixels go row by row
@@ -26,10 +27,14 @@ abbrev pub word_count : Bool → ℕ → ℕ
 word_count false m = m
 word_count true m = m / 4
 
--- word k of the frame
-unfoldable pub word_at : ℕ → Bool → ℕ → List ℤ → ℕ → ℕ
-word_at width binned r sums k = word_of r (map (λ p. get_or sums p (pos 0)) (pixels_of width binned k))
+-- word k of the frame: that of the whole numbers that its entries stand for
+unfoldable pub word_in : {E : Type 0} → Engine E → ℕ → Bool → ℕ → List E → ℕ → ℕ
+word_in engine width binned r sums k = word_of r (map (λ p. engine.value_of (get_or sums p engine.absent)) (pixels_of width binned k))
 
 -- the frame of the sums, word by word
-unfoldable pub frame_of : ℕ → Bool → ℕ → List ℤ → List ℕ
-frame_of width binned r sums = each (word_at width binned r sums) (word_count binned (length sums))
+unfoldable pub frame_in : {E : Type 0} → Engine E → ℕ → Bool → ℕ → List E → List ℕ
+frame_in engine width binned r sums = each (word_in engine width binned r sums) (word_count binned (length sums))
+
+-- of sums in whole numbers
+abbrev pub frame_of : ℕ → Bool → ℕ → List ℤ → List ℕ
+frame_of width binned r sums = frame_in in_whole_numbers width binned r sums

@@ -9,8 +9,8 @@ ghost use Rattle.entries.specs.Possible.{possible_after};
 /// The mark of sample n is this and n more.
 pub const MARK: i32 = 1073741824;
 
-// The largest weight times the largest reading.
-const MAX_PRODUCT: i32 = 245745;
+/// The largest weight times the largest reading.
+pub const MAX_PRODUCT: i32 = 245745;
 
 /// A mark moved down by a gap; a sum stays.
 pub fn lowered(gap: i32, entry: i32) -> i32

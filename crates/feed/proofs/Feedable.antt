@@ -8,17 +8,17 @@ use mathlib.Core.Path.{◌≡◌}
 use native.Mathlib.Omega.{arith}
 use borrow.Author.Tests.{ltb-true, ltb-false, lt-ltb, le-ltb}
 use lib.Dec.{ltb}
-use lib.IntN.{ℤ}
 use Rattle.laws.proofs.Tests.{cases}
 use Rattle.settings.proofs.Parts.{in_range_whole}
+use Rattle.engines.specs.Engine.{Engine}
 use Rattle.ramp.specs.SupportRequires.{Feedable}
 use Rattle.board.specs.declared.Board.{Board}
 use Rattle.board.specs.Board.{wanted, of_taken_sides, sound}
 use Rattle.board.proofs.Soundness.{sound_parts, sides_of, wanted_nine}
 use Rattle.operations.proofs.FeedChecked.{FeedTaken}
 
-pub feedable : (b : Board) (xs : List ℕ) (sums : List ℤ) → FeedTaken b xs sums → Feedable b.in_force b.fed xs sums
-feedable b xs sums t =
+pub feedable : {E : Type 0} (engine : Engine E) (b : Board) (xs : List ℕ) (sums : List E) → FeedTaken engine b xs sums → Feedable engine b.in_force b.fed xs sums
+feedable engine b xs sums t =
     let s = sound_parts b t.ramp.whole in
     let z = sides_of b s in
     let l = t.ramp.length_is in

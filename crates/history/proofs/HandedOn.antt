@@ -8,7 +8,6 @@ use mathlib.Core.Path.{◌≡◌, refl}
 use native.Mathlib.Omega.{arith}
 use borrow.Author.Tests.{ltb-false, eqb-true, not-false}
 use lib.Dec.{ltb, eqb}
-use lib.IntN.{ℤ, pos}
 use lib.ListN.{length, get_or}
 use Rattle.laws.specs.Lists.{every}
 use Rattle.std.specs.Prelude.{None}
@@ -19,7 +18,8 @@ use Rattle.laws.proofs.Tests.{clash}
 use Rattle.checks.proofs.Laws.{Spares, when_spares, found_spares, none_spares}
 use Rattle.checks.proofs.Search.{found_every}
 use Rattle.readings.specs.Readings.{reading_in_range}
-use Rattle.entries.specs.Possible.{possible}
+use Rattle.engines.specs.Engine.{possible_in}
+use Rattle.engines.proofs.Laws.{stands_for}
 use Rattle.written.specs.Written.{impossible_at}
 use Rattle.sums.proofs.Agrees.{Agrees}
 use Rattle.sums.proofs.HandedOn.{never_impossible, all_possible}
@@ -28,9 +28,9 @@ use Rattle.board.specs.declared.Board.{Board}
 use Rattle.board.specs.Board as Board
 use Rattle.board.specs.Board.{wanted, sound}
 use Rattle.board.specs.RampChecks.{ramp_checks}
-use Rattle.operations.specs.Feed.{reading_checks}
-use Rattle.operations.specs.ReadOut.{output_checks}
-use Rattle.history.specs.Calls.{Call, update, start, feed, read_out, drop, ask, Ledger, view_of, Allowed}
+use Rattle.operations.specs.Feed.{reading_checks_in}
+use Rattle.operations.specs.ReadOut.{output_checks_in}
+use Rattle.history.specs.Calls.{Sums, engine, Call, update, start, feed, read_out, drop, ask, Ledger, view_of, Allowed}
 use Rattle.history.specs.Readings.{ramp_of, ramp_area}
 use Rattle.history.specs.Demands.{HandedOnPossible}
 use Rattle.history.proofs.Ledgers.{shown_by}
@@ -44,19 +44,19 @@ ramp_spares b n rest h =
     (λ t. when_spares EntryNotPossible SumsLength _ refl (not (eqb n (Board.board_area b))) (λ t. h (eqb-true _ _ (not-false _ t)))))
 
 module _ {ℓ : Ledger} {allowed : Allowed} (good : Good ℓ allowed) where
-  module _ (sums : List ℤ) (handed : allowed sums) (size : length sums ≡ ramp_area (ramp_of ℓ)) where
-    agree : Agrees ℓ.in_force (ramp_area (ramp_of ℓ)) ℓ.readings sums
+  module _ (sums : Sums) (handed : allowed sums) (size : length sums.entries ≡ ramp_area (ramp_of ℓ)) where
+    agree : Agrees (engine sums) ℓ.in_force (ramp_area (ramp_of ℓ)) ℓ.readings sums.entries
     agree = good.sums sums handed size
 
-    pub none_impossible : (count : ℕ) → first_place (length sums) (impossible_at (pos 0) (possible ℓ.in_force) (length sums) (length ℓ.readings) count sums) ≡ None
+    pub none_impossible : (count : ℕ) → first_place (length sums.entries) (impossible_at (engine sums).absent (possible_in (engine sums) ℓ.in_force) (length sums.entries) (length ℓ.readings) count sums.entries) ≡ None
     none_impossible count =
         rw size
-        (never_impossible ℓ.in_force (parts good).in_force (ramp_area (ramp_of ℓ)) (sides good).some ℓ.readings good.readings (few good) sums agree count)
+        (never_impossible (engine sums) (stands_for sums.kind) ℓ.in_force (parts good).in_force (ramp_area (ramp_of ℓ)) (sides good).some ℓ.readings (few good) sums.entries agree count)
 
-    pub full_possible : wanted (view_of ℓ) ≤ length ℓ.readings → every (possible ℓ.in_force ℓ.in_force.samples) sums ≡ true
+    pub full_possible : wanted (view_of ℓ) ≤ length ℓ.readings → every (possible_in (engine sums) ℓ.in_force ℓ.in_force.samples) sums.entries ≡ true
     full_possible full =
         let s = parts good in
-        all_possible ℓ.in_force s.in_force (ramp_area (ramp_of ℓ)) (sides good).some ℓ.readings good.readings (few good) sums agree
+        all_possible (engine sums) (stands_for sums.kind) ℓ.in_force s.in_force (ramp_area (ramp_of ℓ)) (sides good).some ℓ.readings (few good) sums.entries agree
         ℓ.in_force.samples s.in_force.samples_low (omega (arith, s.fed))
 
   pub possible_sums : (c : Call) → HandedOnPossible (shown_by ℓ allowed) c
@@ -65,15 +65,15 @@ module _ {ℓ : Ledger} {allowed : Allowed} (good : Good ℓ allowed) where
   possible_sums (feed xs own) sums e a =
       let b = view_of ℓ in
       let is : sums ≡ own = cc in
-      ramp_spares b (length own) (reading_checks b xs own)
+      ramp_spares b (length own.entries) (reading_checks_in (engine own) b xs own.entries)
       (λ size. when_spares EntryNotPossible TooManyReadings _ refl (ltb (wanted b) (b.fed + length xs))
       (λ t. found_spares EntryNotPossible ReadingRange _ refl (first_place (length xs) (λ i. not (reading_in_range (get_or xs i 0)))) (none_spares EntryNotPossible EntryNotPossible _ (none_impossible own (rw is at a) size (length xs)))))
   possible_sums (read_out own output) sums e a =
       let b = view_of ℓ in
       let is : sums ≡ own = cc in
-      ramp_spares b (length own) (output_checks b own (length output))
+      ramp_spares b (length own.entries) (output_checks_in (engine own) b own.entries (length output))
       (λ size. when_spares EntryNotPossible ReadingsWanted _ refl (ltb b.fed (wanted b))
       (λ full. when_spares EntryNotPossible WordsLength _ refl (not (eqb (length output) (word_count b.sides.binned (Board.board_area b))))
-      (λ t. none_spares EntryNotPossible EntryNotPossible _ (found_every (possible ℓ.in_force ℓ.in_force.samples) own (pos 0) (full_possible own (rw is at a) size (ltb-false _ _ full))))))
+      (λ t. none_spares EntryNotPossible EntryNotPossible _ (found_every (possible_in (engine own) ℓ.in_force ℓ.in_force.samples) own.entries (engine own).absent (full_possible own (rw is at a) size (ltb-false _ _ full))))))
   possible_sums drop sums e a = clash cc
   possible_sums (ask question) sums e a = clash cc

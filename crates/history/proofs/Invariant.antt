@@ -1,5 +1,6 @@
 -- What a list of calls so far ensures, and each call keeps.
---     Good                 the ledger shows a sound board, its readings are in range, and sums that are allowed agree with them
+--     Good                 the ledger shows a sound board, and sums that are allowed agree with them
+--     fed_size             a taken Feed leaves a sum for each pixel
 --     taken_keeps          a taken call keeps it: a clause for each call
 --     keeps, taken_good    so does any call; and what a taken one leaves
 --     opened_good          at opening it holds
@@ -8,39 +9,34 @@ use mathlib.Core.Bool.{Bool, true}
 use mathlib.Core.List.{List, []}
 use mathlib.Core.Path.{◌≡◌, refl, sym, ap, ◌∙◌}
 use native.Mathlib.Omega.{arith}
-use lib.IntN.{ℤ}
-use lib.ListN.{length}
-use Rattle.laws.specs.Lists.{every}
-use Rattle.laws.proofs.Tests.{true_and}
-use Rattle.laws.proofs.Elements.{every_append}
+use lib.ListN.{length, length-append}
 use Rattle.std.specs.Prelude.{Ok, Err}
 use Rattle.checks.specs.Checks.{Answer, by_answer}
-use Rattle.readings.specs.Readings.{reading_in_range}
+use Rattle.engines.proofs.Laws.{stands_for}
+use Rattle.sums.proofs.Feeding.{feed_length}
+use Rattle.engines.specs.Engine.{step_in}
 use Rattle.sums.proofs.Agrees.{Agrees, agrees_none, agrees_all}
 use Rattle.board.specs.Board.{sound}
 use Rattle.board.specs.Open.{open_of}
-use Rattle.operations.specs.Feed.{fed_sums}
+use Rattle.operations.specs.Feed.{fed_sums_in}
 use Rattle.board.proofs.Soundness.{Sound, Sides, sound_parts, sides_of, wanted_nine}
 use Rattle.operations.proofs.FeedChecked.{feed_taken}
 use Rattle.board.proofs.Laws.{laws}
-use Rattle.history.specs.Calls.{Call, update, start, feed, read_out, drop, ask, Ledger, fresh, view_of, ledger_answer, effect, refused_effect, next, Allowed, any_sums, after_taken, after}
+use Rattle.history.specs.Calls.{Sums, engine, Call, update, start, feed, read_out, drop, ask, Ledger, fresh, view_of, ledger_answer, effect, refused_effect, next, sums_left, Allowed, any_sums, after_taken, after}
 use Rattle.history.specs.Readings.{ramp_of, ramp_area}
 use Rattle.history.proofs.Ledgers.{shown_by, opened_is, board_is, call_sound}
 
 pub record Good (ℓ : Ledger) (allowed : Allowed) : Type 0 where
   pub whole : sound (view_of ℓ) ≡ true
-  pub readings : every reading_in_range ℓ.readings ≡ true
-  pub sums : (σ : List ℤ) → allowed σ → length σ ≡ ramp_area (ramp_of ℓ) → Agrees ℓ.in_force (ramp_area (ramp_of ℓ)) ℓ.readings σ
+  pub sums : (σ : Sums) → allowed σ → length σ.entries ≡ ramp_area (ramp_of ℓ) → Agrees (engine σ) ℓ.in_force (ramp_area (ramp_of ℓ)) ℓ.readings σ.entries
 
 -- where no reading is fed, any sums agree
 none_fed : (ℓ : Ledger) (allowed : Allowed) → ℓ.readings ≡ [] → sound (view_of ℓ) ≡ true → Good ℓ allowed
-unfolding every
 none_fed ℓ allowed e s =
     let p = sound_parts (view_of ℓ) s in
     record {
       whole = s;
-      readings = rw e;
-      sums = λ σ a l. rw e (agrees_none ℓ.in_force p.in_force (ramp_area (ramp_of ℓ)) (sides_of (view_of ℓ) p).some σ l);
+      sums = λ σ a l. rw e (agrees_none (engine σ) ℓ.in_force p.in_force (ramp_area (ramp_of ℓ)) (sides_of (view_of ℓ) p).some σ.entries l);
     }
 
 module _ {ℓ : Ledger} {allowed : Allowed} (good : Good ℓ allowed) where
@@ -54,23 +50,31 @@ module _ {ℓ : Ledger} {allowed : Allowed} (good : Good ℓ allowed) where
   pub few : length ℓ.readings ≤ 9 * ramp_area (ramp_of ℓ)
   few = omega (arith, parts.fed, wanted_nine (view_of ℓ) parts)
 
-  feed_keeps : (xs : List ℕ) (brought : List ℤ) → ledger_answer ℓ (feed xs brought) ≡ Ok tt → sound (view_of (effect ℓ (feed xs brought))) ≡ true
+  pub fed_size : (xs : List ℕ) (before : Sums) → ledger_answer ℓ (feed xs before) ≡ Ok tt → length (sums_left (view_of ℓ) xs before).entries ≡ ramp_area (ramp_of ℓ)
+  unfolding fed_sums_in
+  fed_size xs before t =
+      rw t
+      (feed_length (engine before).absent (step_in (engine before) ℓ.in_force) _ xs _ before.entries
+      ∙ (feed_taken (engine before) (view_of ℓ) xs before.entries t).ramp.length_is)
+
+  feed_keeps : (xs : List ℕ) (brought : Sums) → ledger_answer ℓ (feed xs brought) ≡ Ok tt → sound (view_of (effect ℓ (feed xs brought))) ≡ true
       → Good (effect ℓ (feed xs brought)) (after_taken (view_of ℓ) (feed xs brought) allowed)
-  unfolding fed_sums
+  unfolding fed_sums_in
   feed_keeps xs brought t s =
-      let f = feed_taken (view_of ℓ) xs brought t in
+      let f = feed_taken (engine brought) (view_of ℓ) xs brought.entries t in
       record {
         whole = s;
-        readings = rw every_append (true_and good.readings f.readings);
         sums = λ σ a l.
-            let is : σ ≡ fed_sums (view_of ℓ) xs brought = a.1 in
+            let is : σ ≡ sums_left (view_of ℓ) xs brought = a.1 in
             rw (is, t, f.ramp.length_is)
-            (agrees_all ℓ.in_force parts.in_force (ramp_area (ramp_of ℓ)) sides.some ℓ.readings xs brought (good.sums brought a.0 f.ramp.length_is));
+            (agrees_all (engine brought) ℓ.in_force parts.in_force (ramp_area (ramp_of ℓ)) sides.some (stands_for brought.kind) ℓ.readings xs brought.entries
+            (omega (arith, length-append ℓ.readings xs, f.room, wanted_nine (view_of ℓ) parts))
+            (good.sums brought a.0 f.ramp.length_is));
       }
 
   -- the board that it shows is sound
   taken_keeps : (c : Call) → ledger_answer ℓ c ≡ Ok tt → sound (view_of (effect ℓ c)) ≡ true → Good (effect ℓ c) (after_taken (view_of ℓ) c allowed)
-  taken_keeps (update bytes) t s = record { whole = s; readings = good.readings; sums = good.sums }
+  taken_keeps (update bytes) t s = record { whole = s; sums = good.sums }
   taken_keeps start t s = none_fed (effect ℓ start) _ refl s
   taken_keeps (feed xs sums) t s = feed_keeps xs sums t s
   taken_keeps (read_out sums output) t s = none_fed (effect ℓ (read_out sums output)) allowed refl s

@@ -27,20 +27,20 @@ none_at reason n m =
     ⊎_elim (λ e. eqb-false (number reason) 13 n (ap number e)) (⊎_elim (λ e. eqb-false (number reason) 14 m (ap number e)) (λ e. clash cc))
 
 pub known : AllKnown
-unfolding every sum_to step feed_one feed_all sample_of smallest_mark is_negative total meaning read_word is_covered positives
+unfolding lib.Ieee.of_int lib.Ieee.of_bits lib.Ieee.to_signed lib.Ieee.fits every sum_to step feed_one feed_all sample_of smallest_mark is_negative total meaning read_word is_covered positives
 known =
-    (refl, λ old. refl, refl, refl, refl)
-    then (refl, λ old. refl, refl, refl, refl)
-    then (refl, λ old. refl, refl, refl, refl)
-    then (refl, λ old. refl, refl, refl, refl)
-    then (refl, λ old. refl, refl, refl, refl)
-    then (refl, λ old. refl, refl, refl, refl)
-    then (refl, λ old. refl, refl, refl, refl)
-    then (refl, λ old. refl, refl, refl, refl)
-    then (refl, λ old. refl, refl, refl, refl)
-    then (refl, λ old. refl, refl, refl, refl)
-    then (refl, λ old. refl, refl, refl, refl)
-    then (refl, λ old. refl, refl, refl, refl)
+    (refl, λ old. refl, λ old. refl, refl, refl, refl)
+    then (refl, λ old. refl, λ old. refl, refl, refl, refl)
+    then (refl, λ old. refl, λ old. refl, refl, refl, refl)
+    then (refl, λ old. refl, λ old. refl, refl, refl, refl)
+    then (refl, λ old. refl, λ old. refl, refl, refl, refl)
+    then (refl, λ old. refl, λ old. refl, refl, refl, refl)
+    then (refl, λ old. refl, λ old. refl, refl, refl, refl)
+    then (refl, λ old. refl, λ old. refl, refl, refl, refl)
+    then (refl, λ old. refl, λ old. refl, refl, refl, refl)
+    then (refl, λ old. refl, λ old. refl, refl, refl, refl)
+    then (refl, λ old. refl, λ old. refl, refl, refl, refl)
+    then (refl, λ old. refl, λ old. refl, refl, refl, refl)
     then (refl, refl)
     then (refl, refl)
     then (refl, refl)
@@ -51,6 +51,12 @@ known =
     then inr (inl refl)
     then none_at ReadingsWanted refl refl
     then none_at UnsoundBoard refl refl
+    then refl
+    then refl
+    then refl
+    then refl
+    then refl
+    then refl
     then refl
     then refl
     then refl

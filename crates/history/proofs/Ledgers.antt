@@ -20,8 +20,8 @@ use Rattle.board.specs.Board.{sound}
 use Rattle.board.specs.Open.{open_of}
 use Rattle.operations.specs.Update.{update_of}
 use Rattle.operations.specs.Ramp.{start_of, drop_of}
-use Rattle.operations.specs.Feed.{feed_of, fed_sums}
-use Rattle.operations.specs.ReadOut.{read_out_of, read_out_words}
+use Rattle.operations.specs.Feed.{feed_in, fed_sums_in}
+use Rattle.operations.specs.ReadOut.{read_out_in, read_out_words_in}
 use Rattle.operations.specs.Covered.{covered_checks, coverage_of}
 use Rattle.operations.proofs.Laws.{laws}
 use Rattle.history.specs.Calls.{Question, covered, Call, update, start, feed, read_out, drop, ask, Ledger, fresh, view_of, question_checks, checks, ledger_answer, effect, next, coverage, Given, none_given, given_by_ledger, reply_of, answer_of, outcome_of, given_by_board, Allowed, State}
@@ -45,7 +45,7 @@ unfolding coverage_of
 reply_answer b covered = coverage_answer (verdict (covered_checks b)) (is_covered b.in_force)
 
 pub answer_is : (b : Board) (c : Call) → (outcome_of b c).answer ≡ verdict (checks b c)
-unfolding update_of start_of feed_of read_out_of drop_of
+unfolding update_of start_of feed_in read_out_in drop_of
 answer_is b (update bytes) = refl
 answer_is b start = refl
 answer_is b (feed xs sums) = refl
@@ -67,7 +67,7 @@ shown : {b : Board} (a : Answer) (new old : Ledger) → b ≡ view_of new → by
 shown a new old e = rw e (sym (chosen view_of a new old))
 
 pub board_is : (ℓ : Ledger) (c : Call) → (outcome_of (view_of ℓ) c).board ≡ view_of (next ℓ c)
-unfolding update_of start_of feed_of read_out_of drop_of
+unfolding update_of start_of feed_in read_out_in drop_of
 board_is ℓ (update bytes) = shown (ledger_answer ℓ (update bytes)) (effect ℓ (update bytes)) ℓ refl
 board_is ℓ start = shown (ledger_answer ℓ start) (effect ℓ start) ℓ refl
 board_is ℓ (feed xs sums) = shown (ledger_answer ℓ (feed xs sums)) (effect ℓ (feed xs sums)) ℓ (rw length-append)
@@ -86,10 +86,10 @@ unfolding coverage_of
 reply_is ℓ covered = coverage_given (ledger_answer ℓ (ask covered)) (is_covered ℓ.in_force)
 
 pub given_is : (ℓ : Ledger) (c : Call) → given_by_board (view_of ℓ) c ≡ given_by_ledger ℓ c
-unfolding fed_sums read_out_words
+unfolding fed_sums_in read_out_words_in
 given_is ℓ (update bytes) = same (ledger_answer ℓ (update bytes)) none_given
 given_is ℓ start = same (ledger_answer ℓ start) none_given
-given_is ℓ (feed xs sums) = chosen (λ left. record none_given { sums = Some left }) (ledger_answer ℓ (feed xs sums)) _ sums
+given_is ℓ (feed xs sums) = chosen (λ left. record none_given { sums = Some (record sums { entries = left }) }) (ledger_answer ℓ (feed xs sums)) _ sums.entries
 given_is ℓ (read_out sums output) = chosen (λ left. record none_given { sums = Some sums; output = Some left }) (ledger_answer ℓ (read_out sums output)) _ output
 given_is ℓ drop = same (ledger_answer ℓ drop) none_given
 given_is ℓ (ask question) = reply_is ℓ question
@@ -107,7 +107,7 @@ refused_is ℓ allowed c r e = record {
 pub call_sound : (b : Board) (c : Call) → sound (outcome_of b c).board ≡ sound b
 call_sound b (update bytes) = laws.stays_sound.update b bytes
 call_sound b start = laws.stays_sound.start b
-call_sound b (feed xs sums) = laws.stays_sound.feed b xs sums
-call_sound b (read_out sums output) = laws.stays_sound.read_out b sums output
+call_sound b (feed xs sums) = laws.stays_sound.feed sums.kind b xs sums.entries
+call_sound b (read_out sums output) = laws.stays_sound.read_out sums.kind b sums.entries output
 call_sound b drop = laws.stays_sound.drop b
 call_sound b (ask question) = refl

@@ -1,4 +1,4 @@
--- The proofs of the statements over lists of calls, and of the table of known ramps.
+-- The proofs of the statements over lists of calls, of what is true of both engines, and of the table of known ramps.
 pub mod Claims
 pub mod Ledgers
 pub mod Places
@@ -11,4 +11,5 @@ pub mod Unchanged
 pub mod Ramps
 pub mod Reaches
 pub mod Demands
+pub mod Engines
 pub mod Known

@@ -7,17 +7,30 @@ use Rattle.settings.specs.Covered.{is_covered}
 use Rattle.update.specs.Update.{resulting}
 use Rattle.checks.specs.declared.Refusal.{Refusal}
 use Rattle.checks.specs.Checks.{Answer, verdict, by_answer}
-use Rattle.sums.specs.Feed.{sums_after}
-use Rattle.encoding.specs.Frame.{frame_of}
+use Rattle.engines.specs.Engine.{Engine, Kind, whole_numbers, Entry, engine_of}
+use Rattle.sums.specs.Feed.{sums_in}
+use Rattle.encoding.specs.Frame.{frame_in}
 use Rattle.sides.specs.declared.Sides.{Sides}
 use Rattle.board.specs.declared.Board.{Board}
 use Rattle.board.specs.Board.{Outcome}
 use Rattle.board.specs.Open.{open_of}
 use Rattle.operations.specs.Update.{update_checks, update_of}
 use Rattle.operations.specs.Ramp.{start_checks, start_of, drop_checks, drop_of}
-use Rattle.operations.specs.Feed.{feed_checks, feed_of, fed_sums}
-use Rattle.operations.specs.ReadOut.{read_out_checks, read_out_of, read_out_words}
+use Rattle.operations.specs.Feed.{feed_checks_in, feed_in, fed_sums_in}
+use Rattle.operations.specs.ReadOut.{read_out_checks_in, read_out_in, read_out_words_in}
 use Rattle.operations.specs.Covered.{covered_checks, coverage_of}
+
+-- sums of either kind: one value, with its kind
+pub record Sums : Type 0 where
+  pub kind : Kind
+  pub entries : List (Entry kind)
+
+abbrev pub whole_sums : List ℤ → Sums
+whole_sums entries = record { kind = whole_numbers; entries = entries }
+
+-- the engine that a call with these sums goes to
+abbrev pub engine : (sums : Sums) → Engine (Entry sums.kind)
+engine sums = engine_of sums.kind
 
 -- a question: a call that only asks
 pub data Question : Type 0 where
@@ -27,8 +40,8 @@ pub data Question : Type 0 where
 pub data Call : Type 0 where
   update : (bytes : List ℕ) → Call
   start : Call
-  feed : (readings : List ℕ) (sums : List ℤ) → Call
-  read_out : (sums : List ℤ) (output : List ℕ) → Call
+  feed : (readings : List ℕ) (sums : Sums) → Call
+  read_out : (sums : Sums) (output : List ℕ) → Call
   drop : Call
   ask : (question : Question) → Call
 
@@ -36,7 +49,7 @@ pub data Call : Type 0 where
 pub record Brought : Type 0 where
   pub bytes : Option (List ℕ)
   pub readings : Option (List ℕ)
-  pub sums : Option (List ℤ)
+  pub sums : Option Sums
   pub output : Option (List ℕ)
 
 abbrev pub none_brought : Brought
@@ -83,8 +96,8 @@ question_checks b covered = covered_checks b
 abbrev pub checks : Board → Call → List Answer
 checks b (update bytes) = update_checks b bytes
 checks b start = start_checks b
-checks b (feed readings sums) = feed_checks b readings sums
-checks b (read_out sums output) = read_out_checks b sums output
+checks b (feed readings sums) = feed_checks_in (engine sums) b readings sums.entries
+checks b (read_out sums output) = read_out_checks_in (engine sums) b sums.entries output
 checks b drop = drop_checks b
 checks b (ask question) = question_checks b question
 
@@ -117,7 +130,7 @@ pub data Reply : Type 0 where
 
 -- the buffers that the call brought, as it leaves them, and what a question says
 pub record Given : Type 0 where
-  pub sums : Option (List ℤ)
+  pub sums : Option Sums
   pub output : Option (List ℕ)
   pub reply : Option Reply
 
@@ -132,9 +145,9 @@ ledger_reply ℓ covered = coverage (is_covered ℓ.in_force)
 abbrev pub taken_given : Ledger → Call → Given
 taken_given ℓ (update bytes) = none_given
 taken_given ℓ start = none_given
-taken_given ℓ (feed readings sums) = record none_given { sums = Some (sums_after ℓ.in_force (length ℓ.readings) readings sums) }
+taken_given ℓ (feed readings sums) = record none_given { sums = Some (record sums { entries = sums_in (engine sums) ℓ.in_force (length ℓ.readings) readings sums.entries }) }
 taken_given ℓ (read_out sums output) =
-    record none_given { sums = Some sums; output = Some (frame_of ℓ.sides.width ℓ.sides.binned ℓ.in_force.truncation sums) }
+    record none_given { sums = Some sums; output = Some (frame_in (engine sums) ℓ.sides.width ℓ.sides.binned ℓ.in_force.truncation sums.entries) }
 taken_given ℓ drop = none_given
 taken_given ℓ (ask question) = record none_given { reply = Some (ledger_reply ℓ question) }
 
@@ -160,16 +173,23 @@ answer_of (Err r) = Err r
 abbrev pub outcome_of : Board → Call → Outcome
 outcome_of b (update bytes) = update_of b bytes
 outcome_of b start = start_of b
-outcome_of b (feed readings sums) = feed_of b readings sums
-outcome_of b (read_out sums output) = read_out_of b sums output
+outcome_of b (feed readings sums) = feed_in (engine sums) b readings sums.entries
+outcome_of b (read_out sums output) = read_out_in (engine sums) b sums.entries output
 outcome_of b drop = drop_of b
 outcome_of b (ask question) = record { answer = answer_of (reply_of b question); board = b }
+
+-- the sums as Feed leaves them, and the output as Read out leaves it
+abbrev pub sums_left : Board → List ℕ → Sums → Sums
+sums_left b readings sums = record sums { entries = fed_sums_in (engine sums) b readings sums.entries }
+
+abbrev pub output_left : Board → Sums → List ℕ → List ℕ
+output_left b sums output = read_out_words_in (engine sums) b sums.entries output
 
 abbrev pub given_by_board : Board → Call → Given
 given_by_board b (update bytes) = none_given
 given_by_board b start = none_given
-given_by_board b (feed readings sums) = record none_given { sums = Some (fed_sums b readings sums) }
-given_by_board b (read_out sums output) = record none_given { sums = Some sums; output = Some (read_out_words b sums output) }
+given_by_board b (feed readings sums) = record none_given { sums = Some (sums_left b readings sums) }
+given_by_board b (read_out sums output) = record none_given { sums = Some sums; output = Some (output_left b sums output) }
 given_by_board b drop = none_given
 given_by_board b (ask question) = record none_given { reply = result_ok (reply_of b question) }
 
@@ -177,9 +197,10 @@ given_by_board b (ask question) = record none_given { reply = result_ok (reply_o
 
 -- Which sums the ramp's next taken Feed or Read out may bring: any at the ramp's first, and then those that its last taken Feed left. What a refused call brings
 -- plays no part. So a taken Start allows any sums; a taken Feed that brings sums which are allowed allows from there on those that it leaves, and no others. One
--- that brings others allows none: that ramp is broken, and until the next taken Start demands 2 and 3 say nothing. Demand 1 goes on.
+-- that brings others allows none, and sums of the other kind are others: that ramp is broken, and until the next taken Start demands 2 and 3 say nothing. Demand 1
+-- goes on.
 abbrev pub Allowed : Type 1
-Allowed = List ℤ → Type 0
+Allowed = Sums → Type 0
 
 abbrev pub any_sums : Allowed
 any_sums sums = Unit {0}
@@ -187,7 +208,7 @@ any_sums sums = Unit {0}
 abbrev pub after_taken : Board → Call → Allowed → Allowed
 after_taken b (update bytes) allowed = allowed
 after_taken b start allowed = any_sums
-after_taken b (feed readings before) allowed = λ sums. allowed before × (sums ≡ fed_sums b readings before)
+after_taken b (feed readings before) allowed = λ sums. allowed before × (sums ≡ sums_left b readings before)
 after_taken b (read_out before output) allowed = allowed
 after_taken b drop allowed = allowed
 after_taken b (ask question) allowed = allowed

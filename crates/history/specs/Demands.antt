@@ -1,5 +1,7 @@
 -- The three demands, over every list of calls on a board that Open gave. Read from top to bottom.
-use Rattle.std.specs.Prelude.{ℕ, ◌*◌, ◌≤◌, ◌<◌, Bool, true, false, ◌&&◌, List, [], ◌∷◌, map, ◌↔◌, ◌⊎◌, ◌≡◌, ltb, ℤ, pos, neg_ℤ, length, get_or, ◌≤ℤ◌, Option, Some, None, option_to_list, Result, Ok, Err}
+use Rattle.std.specs.Prelude.{ℕ, ◌*◌, ◌≤◌, ◌<◌, Bool, true, false, ◌&&◌, List, [], ◌∷◌, map, ◌↔◌, ◌⊎◌, ◌≡◌, ltb, pos, neg_ℤ, length, get_or, ◌≤ℤ◌, Option, Some, None, option_to_list, Result, Ok, Err}
+use Rattle.std.specs.Float.{binary64}
+use Rattle.std.specs.Float.Ieee.{fits}
 use Rattle.std.specs.Int.Signed.{le_z, lt_z}
 use Rattle.laws.specs.Lists.{every, joined, total}
 use Rattle.settings.specs.declared.Settings.{Settings}
@@ -9,6 +11,7 @@ use Rattle.checks.specs.declared.Reason.TheVariants.{ReadingRange, EntryNotPossi
 use Rattle.checks.specs.declared.Refusal.{Refusal}
 use Rattle.checks.specs.Checks.{Answer}
 use Rattle.readings.specs.Readings.{reading_in_range}
+use Rattle.engines.specs.Engine.{Kind, whole_numbers, floats, Entry}
 use Rattle.sums.specs.Exact.{exact_sum}
 use Rattle.meaning.specs.declared.WordRead.{WordRead}
 use Rattle.meaning.specs.declared.WordRead.TheVariants.{Saturated, Negative}
@@ -18,9 +21,8 @@ use Rattle.encoding.specs.Meanings.{Between}
 use Rattle.board.specs.declared.Board.{Board}
 use Rattle.board.specs.Board.{sound}
 use Rattle.board.specs.Open.{open_of}
-use Rattle.operations.specs.ReadOut.{read_out_of, read_out_words}
 use Rattle.operations.specs.Covered.{coverage_of}
-use Rattle.history.specs.Calls.{Call, read_out, brought, view_of, ledger_answer, given_by_ledger, outcome_of, given_by_board, State, after, opening}
+use Rattle.history.specs.Calls.{Sums, Call, read_out, brought, view_of, ledger_answer, given_by_ledger, outcome_of, output_left, given_by_board, State, after, opening}
 use Rattle.history.specs.Readings.{Ramp, ramp_of, ramp_area, words, pixels, exact_sums, FirstOver, NeverOver, frame_from}
 
 -- ---- lists
@@ -50,7 +52,7 @@ pub record Unchanged (at : State) (c : Call) : Type 0 where
   pub ledger : (after at c).ledger ≡ at.ledger
   pub sums : (given_by_board at.board c).sums ≡ (brought c).sums
   pub output : (given_by_board at.board c).output ≡ (brought c).output
-  pub allowed : (sums : List ℤ) → (after at c).allowed sums ↔ at.allowed sums
+  pub allowed : (sums : Sums) → (after at c).allowed sums ↔ at.allowed sums
 
 abbrev pub RefusedChangesNothing : State → Call → Type 0
 RefusedChangesNothing at c = (r : Refusal) → ledger_answer at.ledger c ≡ Err r → Unchanged at c
@@ -67,14 +69,14 @@ Sound at c = sound at.board ≡ true
 -- ---- demand 2, at one call
 
 -- a taken Read out of an unbroken ramp: taken by the ledger, whatever the program says
-pub record TakenReadOut (at : State) (c : Call) (sums : List ℤ) (output : List ℕ) : Type 0 where
+pub record TakenReadOut (at : State) (c : Call) (sums : Sums) (output : List ℕ) : Type 0 where
   pub brings : c ≡ read_out sums output
   pub taken : ledger_answer at.ledger c ≡ Ok tt
   pub handed_on : at.allowed sums
 
 -- its frame is the one that the readings and the settings in force make
 abbrev pub Demand2 : State → Call → Type 0
-Demand2 at c = (sums : List ℤ) (output : List ℕ) → TakenReadOut at c sums output → read_out_words at.board sums output ≡ frame_from (ramp_of at.ledger)
+Demand2 at c = (sums : Sums) (output : List ℕ) → TakenReadOut at c sums output → output_left at.board sums output ≡ frame_from (ramp_of at.ledger)
 
 -- ---- demand 3
 
@@ -97,8 +99,8 @@ pub record FrameClaim (ramp : Ramp) (answer : Answer) (frame : List ℕ) : Type 
 -- at one call: no word of the frame is false
 abbrev pub NoFalseWord : State → Call → Type 0
 NoFalseWord at c =
-    (sums : List ℤ) (output : List ℕ) → TakenReadOut at c sums output
-    → FrameClaim (ramp_of at.ledger) (read_out_of at.board sums output).answer (read_out_words at.board sums output)
+    (sums : Sums) (output : List ℕ) → TakenReadOut at c sums output
+    → FrameClaim (ramp_of at.ledger) (outcome_of at.board (read_out sums output)).answer (output_left at.board sums output)
 
 -- Covered says "covered" of the board that the call gets
 abbrev pub SaidCovered : State → Type 0
@@ -125,7 +127,7 @@ pub record Demand3 : Type 0 where
 -- they are never refused by 14, however the readings are cut into Feeds
 abbrev pub HandedOnPossible : State → Call → Type 0
 HandedOnPossible at c =
-    (sums : List ℤ) → (brought c).sums ≡ Some sums → at.allowed sums
+    (sums : Sums) → (brought c).sums ≡ Some sums → at.allowed sums
     → (place : ℕ) → ledger_answer at.ledger c ≡ Err (record { reason = EntryNotPossible; place = place }) → ⊥
 
 -- ---- the demands are not empty
@@ -135,11 +137,11 @@ abbrev pub AtSome : (State → Call → Type 0) → State → List Call → Type
 AtSome P at [] = ⊥
 AtSome P at (c ∷ calls) = P at c ⊎ AtSome P (after at c) calls
 
--- a taken Read out of an unbroken ramp, under the settings s, of the readings xs; Covered says of its board what the settings are
-pub record ReadsOut (s : Settings) (xs : List ℕ) (at : State) (c : Call) : Type 0 where
-  pub sums : List ℤ
+-- a taken Read out of an unbroken ramp, of one engine, under the settings s, of the readings xs; Covered says of its board what the settings are
+pub record ReadsOut (kind : Kind) (s : Settings) (xs : List ℕ) (at : State) (c : Call) : Type 0 where
+  pub entries : List (Entry kind)
   pub output : List ℕ
-  pub taken : TakenReadOut at c sums output
+  pub taken : TakenReadOut at c (record { kind = kind; entries = entries }) output
   pub settings : at.ledger.in_force ≡ s
   pub coverage : coverage_of at.board ≡ Ok (is_covered s)
   pub readings : at.ledger.readings ≡ xs
@@ -153,28 +155,37 @@ abbrev pub every_brought : {A : Type 0} → (A → Bool) → Option (List A) →
 every_brought test None = true
 every_brought test (Some l) = every test l
 
--- what the types of a call's parameters hold: bytes, 16-bit readings and words, 32-bit sums
+-- what the type of an entry holds: whole numbers of 32 bits, floats of 64
+abbrev pub entry_passes : (kind : Kind) → Entry kind → Bool
+entry_passes whole_numbers z = le_z (neg_ℤ (pos 2147483648)) z && lt_z z (pos 2147483648)
+entry_passes floats x = fits binary64 x
+
+abbrev pub sums_pass : Option Sums → Bool
+sums_pass None = true
+sums_pass (Some sums) = every (entry_passes sums.kind) sums.entries
+
+-- what the types of a call's parameters hold: bytes, 16-bit readings and words, and the sums
 abbrev pub passable : Call → Bool
 passable c =
     every_brought (λ x. ltb x 256) (brought c).bytes
     && every_brought (λ x. ltb x 65536) (brought c).readings
-    && every_brought (λ z. le_z (neg_ℤ (pos 2147483648)) z && lt_z z (pos 2147483648)) (brought c).sums
+    && sums_pass (brought c).sums
     && every_brought (λ x. ltb x 65536) (brought c).output
 
--- from here on: calls that anyone can make, whose Feeds bring the readings cut as said, and which read them out under the settings s
-pub record CanReadOut (at : State) (s : Settings) (cut : List (List ℕ)) : Type 0 where
+-- from here on: calls that anyone can make, whose Feeds bring the readings cut as said, and which read them out by one engine, under the settings s
+pub record CanReadOut (at : State) (kind : Kind) (s : Settings) (cut : List (List ℕ)) : Type 0 where
   pub calls : List Call
   pub can_be_made : every passable calls ≡ true
   pub feeds : fed_by calls ≡ cut
-  pub reads_out : AtSome (ReadsOut s (joined cut)) at calls
+  pub reads_out : AtSome (ReadsOut kind s (joined cut)) at calls
 
 -- N × M readings, all in range
 abbrev pub FullRamp : State → Settings → List ℕ → Type 0
 FullRamp at s readings = (length readings ≡ s.samples * (at.ledger.sides.width * at.ledger.sides.height)) × (every reading_in_range readings ≡ true)
 
--- whatever was called before, refused calls and broken ramps too: any readings can be read out, in any cut into Feeds, under any settings in range
+-- whatever was called before, refused calls and broken ramps too: any readings can be read out, in any cut into Feeds, by either engine, under any settings in range
 abbrev pub AnyRampFollows : State → Call → Type 0
-AnyRampFollows at c = (s : Settings) → in_range s ≡ true → (cut : List (List ℕ)) → FullRamp at s (joined cut) → CanReadOut at s cut
+AnyRampFollows at c = (kind : Kind) (s : Settings) → in_range s ≡ true → (cut : List (List ℕ)) → FullRamp at s (joined cut) → CanReadOut at kind s cut
 
 -- ---- settings that no call has changed
 
@@ -193,10 +204,10 @@ pub record DefaultsCovered : Type 1 where
   pub frames : (w h : ℕ) (binned : Bool) → (open_of w h binned).answer ≡ Ok tt → (calls : List Call)
       → Every WaitingStays (opening w h binned) calls
       → Every (λ at c. SaidCovered at × NoFalseWord at c) (opening w h binned) calls
-  -- such a list, with no record in it, can read out any N × M readings in range, in any cut into Feeds
+  -- such a list, with no record in it, can read out any N × M readings in range, in any cut into Feeds, by either engine
   pub reached : (w h : ℕ) (binned : Bool) → (open_of w h binned).answer ≡ Ok tt
-      → (cut : List (List ℕ)) → FullRamp (opening w h binned) defaults (joined cut)
-      → (list : CanReadOut (opening w h binned) defaults cut) × Every NoRecord (opening w h binned) list.calls
+      → (kind : Kind) (cut : List (List ℕ)) → FullRamp (opening w h binned) defaults (joined cut)
+      → (list : CanReadOut (opening w h binned) kind defaults cut) × Every NoRecord (opening w h binned) list.calls
 
 -- ---- all demands
 

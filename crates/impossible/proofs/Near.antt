@@ -1,5 +1,4 @@
 -- Entries that are surely possible.
---     every_fold           a flag over a whole list
 --     Bound, bound_more    its bits are among those of all, for each entry before i; and for one more
 --     together             the bits of four more
 --     row_at, rows_end     an element of each of four lists of one length; and how many there are
@@ -8,7 +7,7 @@
 --     quarters_possible    four parts that are near, and the rest that is possible
 use Prim.Native.Nat.{ℕ, suc, ◌+◌, ◌-◌, ◌*◌, ◌<◌, ◌≤◌}
 use mathlib.Core.Bool.{Bool, true, false, ◌&&◌}
-use mathlib.Core.List.{List, [], ◌∷◌}
+use mathlib.Core.List.{List}
 use mathlib.Core.Logic.{inl, inr, ⊎_elim}
 use mathlib.Core.Path.{◌≡◌, refl, sym, ap, ◌∙◌}
 use native.Mathlib.Nat.{eq-or-lt_of_le}
@@ -23,22 +22,17 @@ use mir.Syntax.{w32}
 use mir.Val.{SFits, sel, to_z, of_z}
 use Rattle.std.proofs.lemmas.List.{get_or_default}
 use Rattle.std.proofs.lemmas.Slice.Zip.{length-zip, get_or-zip}
-use Rattle.std.specs.List.{fold, zip}
+use Rattle.std.specs.List.{zip}
 use Rattle.laws.specs.Lists.{every}
 use Rattle.laws.proofs.Bits.{or_above}
 use Rattle.laws.proofs.Every.{every_at, every_all}
 use Rattle.laws.proofs.Quarters.{Four, quarters}
-use Rattle.laws.proofs.Tests.{clash, cases, and_true, true_and, and_right, and_assoc}
+use Rattle.laws.proofs.Tests.{clash, cases, and_true, true_and}
 use Rattle.laws.proofs.Ints.{up, dn, sum, neg_up, neg_dn, is_le, is_lt, lt_true, fitted, signed}
 use Rattle.entries.specs.Mark.{mark, marked}
 use Rattle.entries.specs.Possible.{max_product, possible_after}
 use Rattle.impossible.specs.SupportNear.{moved, is_near, nearness}
 use Rattle.entries.proofs.Possible.{is_fair}
-
-pub every_fold : {A : Type 0} (f : A → Bool) (ok : Bool) (l : List A) → fold (λ good x. good && f x) ok l ≡ (ok && every f l)
-unfolding every
-every_fold f ok [] = sym (and_right ok)
-every_fold f ok (x ∷ l) = every_fold f (ok && f x) l ∙ and_assoc ok (f x) (every f l)
 
 -- the bits of four more
 pub together : (b x y u v : ℕ) → let all = bit_or b (bit_or (bit_or x y) (bit_or u v)) in (b ≤ all) × (x ≤ all) × (y ≤ all) × (u ≤ all) × (v ≤ all)

@@ -9,5 +9,7 @@ pub mod Every
 pub mod Elements
 pub mod Over
 pub mod Parts
+pub mod Folds
+pub mod Calls
 pub mod Quarters
 pub mod Tables

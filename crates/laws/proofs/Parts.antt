@@ -1,11 +1,10 @@
 -- A part of a list, and what holds of all its elements.
 --     part_length     how many
 --     part_at         an element
---     part_keeps      what holds of what `get_or` finds in a list holds in its part
 --     map_same        two functions that agree on each element
 use mathlib.Core.Path.{◌≡◌, refl, ◌∙◌}
 use mathlib.Core.List.{List, [], ◌∷◌, map}
-use Prim.Native.Nat.{ℕ, zero, suc, ◌+◌, ◌≤◌, ◌<◌}
+use Prim.Native.Nat.{ℕ, ◌+◌, ◌≤◌, ◌<◌}
 use native.Mathlib.Omega.{arith}
 use lib.ListN.{length, get_or, take, drop, length-drop}
 use lib.Seq.{length-take-le, get_or-take, get_or-drop}
@@ -17,16 +16,6 @@ module _ {A : Type 0} where
 
   pub part_at : (l : List A) (i k j : ℕ) (d : A) → j < k → get_or (take k (drop i l)) j d ≡ get_or l (i + j) d
   part_at l i k j d h = get_or-take k (drop i l) j d h ∙ get_or-drop i l j d
-
-  module _ (P : A → Type 0) (d : A) (p : P d) where
-    take_keeps : (k : ℕ) (l : List A) → ((j : ℕ) → P (get_or l j d)) → (j : ℕ) → P (get_or (take k l) j d)
-    take_keeps zero l h j = p
-    take_keeps (suc k) [] h j = p
-    take_keeps (suc k) (x ∷ l) h zero = h 0
-    take_keeps (suc k) (x ∷ l) h (suc j) = take_keeps k l (λ i. h (suc i)) j
-
-    pub part_keeps : (l : List A) (i k : ℕ) → ((j : ℕ) → P (get_or l j d)) → (j : ℕ) → P (get_or (take k (drop i l)) j d)
-    part_keeps l i k h j = take_keeps k (drop i l) (λ n. rw get_or-drop (h (i + n))) j
 
 pub map_same : {A B : Type 0} {P : A → Type 0} (f g : A → B) → ((x : A) → P x → f x ≡ g x) → (l : List A) → All P l → map f l ≡ map g l
 map_same f g h [] a = refl

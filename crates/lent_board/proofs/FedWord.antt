@@ -13,21 +13,22 @@ use Rattle.checks.specs.Checks.{Answer, verdict}
 use Rattle.board.specs.declared.Board.{Board}
 use Rattle.board.specs.Board.{sound}
 use Rattle.board.proofs.Soundness.{sound_parts, sides_of, wanted_nine}
-use Rattle.operations.specs.Feed.{feed_checks, feed_of}
-use Rattle.operations.proofs.Laws as OperationLaws
+use Rattle.engines.specs.Engine.{Engine}
+use Rattle.operations.specs.Feed.{feed_checks_in, feed_in}
+use Rattle.operations.proofs.Laws.{feed_sound, feed_99}
 use Rattle.board_words.specs.Words.{board_length, words_of, held}
 use Rattle.board_words.proofs.Laws as WordsLaws
 use Rattle.lent_board.specs.Lent.{words_left}
 use Rattle.lent_board.proofs.Kept.{kept}
 
 -- b is the board that the Feed gets, new the one that it leaves
-module _ (words : List ℤ) (b new : Board) (readings : List ℕ) (sums : List ℤ) (answer : Answer) (holds : b ≡ held words)
-    (says : answer ≡ (feed_of b readings sums).answer) (leaves : new ≡ (feed_of b readings sums).board) (taken : answer ≡ Ok tt) where
-  stays : sound (feed_of b readings sums).board ≡ sound b
-  stays = (OperationLaws.laws).stays_sound.feed b readings sums
+module _ {E : Type 0} (engine : Engine E) (words : List ℤ) (b new : Board) (readings : List ℕ) (sums : List E) (answer : Answer) (holds : b ≡ held words)
+    (says : answer ≡ (feed_in engine b readings sums).answer) (leaves : new ≡ (feed_in engine b readings sums).board) (taken : answer ≡ Ok tt) where
+  stays : sound (feed_in engine b readings sums).board ≡ sound b
+  stays = feed_sound engine b readings sums
 
   both : (length words ≡ board_length) × (sound new ≡ true)
-  both = kept words b new (feed_of b readings sums) answer holds says leaves taken stays (λ s. (((OperationLaws.laws).unsound_99 b s).feed readings sums).0)
+  both = kept words b new (feed_in engine b readings sums) answer holds says leaves taken stays (λ s. (feed_99 engine b readings sums s).0)
 
   pub asked : (length words ≡ board_length) × (new.fed < 2 ^ 63)
   asked = let p = sound_parts new both.1 in (both.0, omega (arith, p.fed, wanted_nine new p, (sides_of new p).few))
@@ -35,8 +36,8 @@ module _ (words : List ℤ) (b new : Board) (readings : List ℕ) (sums : List �
   whole : words ≡ words_of b
   whole = rw holds ((WordsLaws.laws).no_other words (rw holds at (sym stays ∙ (rw leaves at both.1))))
 
-  pub fed_word : set words 4 (pos new.fed) ≡ words_left (feed_of (held words) readings sums) words
-  unfolding feed_of
+  pub fed_word : set words 4 (pos new.fed) ≡ words_left (feed_in engine (held words) readings sums) words
+  unfolding feed_in
   fed_word =
-      let passed : verdict (feed_checks b readings sums) ≡ Ok tt = sym says ∙ taken in
+      let passed : verdict (feed_checks_in engine b readings sums) ≡ Ok tt = sym says ∙ taken in
       rw (← holds, leaves, passed) (ap (λ l. set l 4 (pos (b.fed + length readings))) whole)

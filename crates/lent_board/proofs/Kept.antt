@@ -31,21 +31,26 @@ as_many : (b : Board) → length (words_of b) ≡ board_length
 unfolding each
 as_many b = refl
 
--- a board that isn't sound is refused with 99 by every operation
-pub unsound_99 : (b : Board) (answer : Answer) (r : Refusal) → answer ≡ unsound b → answer ≡ Err r → (r ≡ refusal UnsoundBoard) × Gives99 b
+-- a board that isn't sound is refused with 99
+pub unsound_99 : (b : Board) (answer : Answer) (r : Refusal) → answer ≡ unsound b → answer ≡ Err r → (r ≡ refusal UnsoundBoard) × (sound b ≡ false)
 unsound_99 b answer r asked was =
     cases (sound b)
     (λ t. clash (ap is_ok (sym (rw t at asked) ∙ was)))
-    (λ f. let e : Err (refusal UnsoundBoard) ≡ Err r = sym (rw f at asked) ∙ was in (cc, (OperationLaws.laws).unsound_99 b f))
+    (λ f. let e : Err (refusal UnsoundBoard) ≡ Err r = sym (rw f at asked) ∙ was in (cc, f))
 
 -- and so is the board that stands for words which hold none
 pub none_99 : (words : List ℤ) (answer : Answer) (r : Refusal) → answer ≡ when (not (holds_board words)) UnsoundBoard → answer ≡ Err r
-    → (r ≡ refusal UnsoundBoard) × Gives99 (held words)
+    → (r ≡ refusal UnsoundBoard) × (sound (held words) ≡ false)
 unfolding held
 none_99 words answer r asked was =
     cases (holds_board words)
     (λ t. clash (ap is_ok (sym (rw t at asked) ∙ was)))
     (λ f. unsound_99 (held words) answer r (rw (f, none_unsound) (rw f at asked)) was)
+
+-- every operation gives 99 then
+pub none_gives_99 : (words : List ℤ) (answer : Answer) (r : Refusal) → answer ≡ when (not (holds_board words)) UnsoundBoard → answer ≡ Err r
+    → (r ≡ refusal UnsoundBoard) × Gives99 (held words)
+none_gives_99 words answer r asked was = let p = none_99 words answer r asked was in (p.0, (OperationLaws.laws).unsound_99 (held words) p.1)
 
 -- of any operation that keeps a sound board sound, and refuses any other with 99: b is the board that it gets, new the one that it leaves, o what its definition says
 pub kept : (words : List ℤ) (b new : Board) (o : Outcome) (answer : Answer) → b ≡ held words → answer ≡ o.answer → new ≡ o.board → answer ≡ Ok tt

@@ -6,8 +6,8 @@ ghost use Rattle.checks.specs.declared.Reason.TheVariants.{UnsoundBoard};
 ghost use Rattle.checks.specs.Checks.{when};
 ghost use Rattle.operations.specs.Update.{update_of};
 ghost use Rattle.operations.specs.Ramp.{start_of, drop_of};
-ghost use Rattle.operations.specs.Feed.{feed_of, fed_sums};
-ghost use Rattle.operations.specs.ReadOut.{read_out_of, read_out_words};
+ghost use Rattle.operations.specs.Feed.{feed_in, fed_sums_in};
+ghost use Rattle.operations.specs.ReadOut.{read_out_in, read_out_words_in};
 ghost use Rattle.operations.specs.Covered.{coverage_of};
 ghost use Rattle.board_words.specs.Words.{holds_board, held};
 ghost use Rattle.lent_board.specs.Lent.{open_answer, opened_words, words_left};
@@ -16,6 +16,7 @@ use board::Board;
 use board_words::{BOARD_LENGTH, held, holds_board, write_board, write_fed};
 use checks::{Answer, Reason, Refusal, refuse_when};
 use feed::feed_sound;
+use kinds::Entry;
 use sides::Sides;
 
 // 99 where the words hold no board, as of a board that isn't sound.
@@ -69,14 +70,14 @@ pub fn start(words: &mut [i64]) -> Answer
     Ok(())
 }
 
-/// Feed, as `feed::feed`, on the board that the words hold.
+/// Feed, as `feed::feed`, on the board that the words hold, with sums of either kind.
 /// Takes the words of a board, readings and the sums. Leaves the readings summed up in the sums, and the words of a board that was fed so many more.
 /// Refused, in this order, with 99, 10 to 14. All is then as it was.
-/// The definitions are `feed_of` and `fed_sums` in operations/specs/Feed.antt, and `words_left` in specs/Lent.antt.
-pub fn feed(words: &mut [i64], readings: &[u16], sums: &mut [i32]) -> Answer
-    ensures answer { result ≡ (feed_of (held words.old) readings.now sums.old).answer }
-    ensures board { words.new ≡ words_left (feed_of (held words.old) readings.now sums.old) words.old }
-    ensures sums { sums.new ≡ fed_sums (held words.old) readings.now sums.old }
+/// The definitions are `feed_in` and `fed_sums_in` in operations/specs/Feed.antt, and `words_left` in specs/Lent.antt.
+pub fn feed<E: Entry>(words: &mut [i64], readings: &[u16], sums: &mut [E]) -> Answer
+    ensures answer { result ≡ (feed_in E.engine (held words.old) readings.now sums.old).answer }
+    ensures board { words.new ≡ words_left (feed_in E.engine (held words.old) readings.now sums.old) words.old }
+    ensures sums { sums.new ≡ fed_sums_in E.engine (held words.old) readings.now sums.old }
 {
     check_held(words)?;
     let mut board = held(words);
@@ -87,14 +88,14 @@ pub fn feed(words: &mut [i64], readings: &[u16], sums: &mut [i32]) -> Answer
     Ok(())
 }
 
-/// Read out, as `read_out::read_out`, on the board that the words hold.
+/// Read out, as `read_out::read_out`, on the board that the words hold, with sums of either kind.
 /// Takes the words of a board, the sums and an output. Leaves the frame in the output, and the words of a board with no ramp.
 /// Refused, in this order, with 99, 10, 11, 15, 16, 14. All is then as it was.
-/// The definitions are `read_out_of` and `read_out_words` in operations/specs/ReadOut.antt, and `words_left` in specs/Lent.antt.
-pub fn read_out(words: &mut [i64], sums: &[i32], output: &mut [u16]) -> Answer
-    ensures answer { result ≡ (read_out_of (held words.old) sums.now output.old).answer }
-    ensures board { words.new ≡ words_left (read_out_of (held words.old) sums.now output.old) words.old }
-    ensures output { output.new ≡ read_out_words (held words.old) sums.now output.old }
+/// The definitions are `read_out_in` and `read_out_words_in` in operations/specs/ReadOut.antt, and `words_left` in specs/Lent.antt.
+pub fn read_out<E: Entry>(words: &mut [i64], sums: &[E], output: &mut [u16]) -> Answer
+    ensures answer { result ≡ (read_out_in E.engine (held words.old) sums.now output.old).answer }
+    ensures board { words.new ≡ words_left (read_out_in E.engine (held words.old) sums.now output.old) words.old }
+    ensures output { output.new ≡ read_out_words_in E.engine (held words.old) sums.now output.old }
 {
     check_held(words)?;
     let mut board = held(words);

@@ -12,8 +12,8 @@ use Rattle.entries.specs.Possible.{possible_after}
 use Rattle.board.specs.Board.{sides_taken, sound}
 use Rattle.operations.specs.Update.{update_of}
 use Rattle.operations.specs.Ramp.{start_of, drop_of}
-use Rattle.operations.specs.Feed.{feed_of}
-use Rattle.operations.specs.ReadOut.{read_out_of}
+use Rattle.operations.specs.Feed.{feed_in}
+use Rattle.operations.specs.ReadOut.{read_out_in}
 use Rattle.operations.specs.Covered.{coverage_of}
 use Rattle.operations.specs.Known.{Holds, updates, AllKnown}
 
@@ -26,13 +26,15 @@ updates_known =
     refl then (rw (rows.0)) then (rw empty) then (rw empty) then tt
 
 pub known : AllKnown
-unfolding start_of feed_of read_out_of drop_of coverage_of verdict first_place sound sides_taken in_range every possible_after is_covered positives
+unfolding lib.Ieee.of_bits lib.Ieee.in_signed lib.Ieee.to_signed lib.Ieee.whole start_of feed_in read_out_in drop_of coverage_of verdict first_place sound sides_taken in_range every possible_after is_covered positives
 known = record {
   updates_known = updates_known;
   starts_known = refl then refl then refl then tt;
   feeds_known = refl then refl then refl then refl then refl then refl then refl then refl then refl then refl then refl then refl then refl then refl then refl then refl then refl then refl then refl then refl then refl then refl then refl then refl then refl then refl then refl then refl then tt;
   read_outs_known = refl then refl then refl then refl then refl then refl then refl then refl then refl then refl then refl then refl then refl then refl then refl then refl then refl then refl then refl then refl then refl then tt;
+  float_feeds_known = refl then refl then refl then refl then refl then refl then refl then refl then refl then refl then refl then refl then refl then refl then refl then refl then refl then refl then refl then tt;
+  float_read_outs_known = refl then refl then refl then refl then refl then refl then refl then refl then refl then refl then refl then refl then refl then refl then refl then refl then tt;
   drops_known = refl then refl then refl then refl then tt;
   coverages_known = refl then refl then refl then refl then refl then refl then refl then refl then refl then tt;
-  boards_known = refl then refl then refl then refl then refl then refl then refl then refl then tt;
+  boards_known = refl then refl then refl then refl then refl then refl then refl then refl then refl then refl then tt;
 }

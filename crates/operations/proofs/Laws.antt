@@ -5,7 +5,6 @@ use mathlib.Core.List.{List, [], ◌∷◌}
 use mathlib.Core.Path.{◌≡◌, refl}
 use native.Mathlib.Nat.{add-zero}
 use native.Mathlib.Omega.{arith}
-use lib.IntN.{ℤ, pos}
 use lib.ListN.{length}
 use Rattle.laws.specs.Lists.{every}
 use Rattle.settings.specs.declared.Settings.{Settings}
@@ -16,19 +15,21 @@ use Rattle.checks.specs.declared.Refusal.{Refusal}
 use Rattle.std.specs.Prelude.{Ok, Err}
 use Rattle.checks.specs.Checks.{Answer, verdict, by_answer}
 use Rattle.checks.proofs.Laws.{both_taken}
-use Rattle.entries.specs.Possible.{possible}
+use Rattle.engines.specs.Engine.{Engine, possible_in, Kind, Entry, engine_of}
+use Rattle.engines.proofs.Laws.{stands_for}
 use Rattle.written.proofs.Intervals.{written_none}
 use Rattle.sums.specs.Feed.{feed_all}
 use Rattle.board.specs.declared.Board.{Board}
 use Rattle.board.specs.Board.{sound, unsound, ended}
 use Rattle.board.specs.RampChecks.{ramp_checks}
+use Rattle.board.specs.Kept.{refused99}
 use Rattle.board.proofs.Soundness.{Sound, sound_parts, sides_of}
 use Rattle.board.proofs.Kept.{stays, ended_sound, same_settings, same_sides}
 use Rattle.board.proofs.Checked.{ramp_taken}
 use Rattle.operations.specs.Update.{update_checks, with_waiting, update_of}
 use Rattle.operations.specs.Ramp.{start_checks, begun, start_of, drop_checks, drop_of}
-use Rattle.operations.specs.Feed.{feed_checks, extended, feed_of, fed_sums}
-use Rattle.operations.specs.ReadOut.{read_out_checks, read_out_of, read_out_words}
+use Rattle.operations.specs.Feed.{feed_checks_in, extended, feed_in, fed_sums_in}
+use Rattle.operations.specs.ReadOut.{read_out_checks_in, read_out_in, read_out_words_in}
 use Rattle.operations.specs.Covered.{coverage_of}
 use Rattle.operations.specs.Laws.{Gives99, OperationLaws}
 use Rattle.operations.proofs.Feeds.{one_by_one, any_cut, taken_in_any_cut}
@@ -55,11 +56,15 @@ update_sound b bytes =
     stays b _ (answer ∷ [])
     (λ s e. waiting_sound b _ (resulting_in_range b.waiting bytes s.waiting (both_taken answer (Ok tt) (both_taken (unsound b) (verdict (answer ∷ [])) e).1).0) s)
 
-feed_sound : (b : Board) (xs : List ℕ) (sums : List ℤ) → sound (feed_of b xs sums).board ≡ sound b
-unfolding feed_of
-feed_sound b xs sums =
+pub feed_sound : {E : Type 0} (engine : Engine E) (b : Board) (xs : List ℕ) (sums : List E) → sound (feed_in engine b xs sums).board ≡ sound b
+unfolding feed_in
+feed_sound engine b xs sums =
     stays b (extended (length xs) b) _
-    (λ s e. extended_sound b xs sums (feed_taken b xs sums e) s)
+    (λ s e. extended_sound engine b xs sums (feed_taken engine b xs sums e) s)
+
+pub read_out_sound : {E : Type 0} (engine : Engine E) (b : Board) (sums : List E) (output : List ℕ) → sound (read_out_in engine b sums output).board ≡ sound b
+unfolding read_out_in
+read_out_sound engine b sums output = stays b (ended b) _ (λ s e. ended_sound b s)
 
 -- ---- what each keeps
 
@@ -75,60 +80,71 @@ start_refused a b r e = rw e
 
 -- ---- 99
 
+pub feed_99 : {E : Type 0} (engine : Engine E) (b : Board) (xs : List ℕ) (sums : List E) → sound b ≡ false
+    → (feed_in engine b xs sums ≡ refused99 b) × (fed_sums_in engine b xs sums ≡ sums)
+unfolding feed_in fed_sums_in verdict
+feed_99 engine b xs sums s = (rw s, rw s)
+
+pub read_out_99 : {E : Type 0} (engine : Engine E) (b : Board) (sums : List E) (output : List ℕ) → sound b ≡ false
+    → (read_out_in engine b sums output ≡ refused99 b) × (read_out_words_in engine b sums output ≡ output)
+unfolding read_out_in read_out_words_in verdict
+read_out_99 engine b sums output s = (rw s, rw s)
+
 unsound_99 : (b : Board) → sound b ≡ false → Gives99 b
-unfolding update_of start_of feed_of fed_sums read_out_of read_out_words drop_of coverage_of verdict
+unfolding update_of start_of drop_of coverage_of verdict
 unsound_99 b s = record {
   update = λ bytes. rw s;
   start = rw s;
-  feed = λ xs sums. (rw s, rw s);
-  read_out = λ sums output. (rw s, rw s);
+  feed = λ kind xs sums. feed_99 (engine_of kind) b xs sums s;
+  read_out = λ kind sums output. read_out_99 (engine_of kind) b sums output s;
   drop = rw s;
   covered = rw s;
 }
 
 -- ---- the empty Feed
 
-empty_feed : (b : Board) (sums : List ℤ) → verdict (ramp_checks b (length sums)) ≡ Ok tt
-    → (feed_of b [] sums ≡ record { answer = Ok tt; board = b }) × (fed_sums b [] sums ≡ sums)
-unfolding feed_of fed_sums feed_all every
-empty_feed b sums e =
+empty_feed : (kind : Kind) (b : Board) (sums : List (Entry kind)) → verdict (ramp_checks b (length sums)) ≡ Ok tt
+    → let engine = engine_of kind in (feed_in engine b [] sums ≡ record { answer = Ok tt; board = b }) × (fed_sums_in engine b [] sums ≡ sums)
+unfolding feed_in fed_sums_in feed_all every
+empty_feed kind b sums e =
+    let engine = engine_of kind in
     let t = ramp_taken b (length sums) e in
     let s = sound_parts b t.whole in
     let some : 0 < length sums = rw t.length_is (sides_of b s).some in
-    let p = feed_passes b [] sums (record {
+    let p = feed_passes engine b [] sums (record {
       ramp = t;
       room = omega (arith, s.fed);
       readings = refl;
-      entries = written_none (pos 0) (possible b.in_force) (length sums) b.fed 0 sums some refl;
+      entries = written_none engine.absent (possible_in engine b.in_force) (length sums) b.fed 0 sums some refl;
     }) in
     rw (p, add-zero b.fed) (refl, refl)
 
 pub laws : OperationLaws
-unfolding update_of start_of feed_of read_out_of drop_of
+unfolding update_of start_of feed_in read_out_in drop_of
 laws = record {
   stays_sound = record {
     update = update_sound;
     start = λ b. stays b (begun b) _ (λ s e. begun_sound b s);
-    feed = feed_sound;
-    read_out = λ b sums output. stays b (ended b) _ (λ s e. ended_sound b s);
+    feed = λ kind. feed_sound (engine_of kind);
+    read_out = λ kind. read_out_sound (engine_of kind);
     drop = λ b. stays b (ended b) _ (λ s e. ended_sound b s);
   };
   unsound_99 = unsound_99;
   sides_stay = record {
     update = λ b bytes. same_sides (verdict (update_checks b bytes)) b _ refl;
     start = λ b. same_sides (verdict (start_checks b)) b (begun b) refl;
-    feed = λ b xs sums. same_sides (verdict (feed_checks b xs sums)) b (extended (length xs) b) refl;
-    read_out = λ b sums output. same_sides (verdict (read_out_checks b sums output)) b (ended b) refl;
+    feed = λ kind b xs sums. same_sides (verdict (feed_checks_in (engine_of kind) b xs sums)) b (extended (length xs) b) refl;
+    read_out = λ kind b sums output. same_sides (verdict (read_out_checks_in (engine_of kind) b sums output)) b (ended b) refl;
     drop = λ b. same_sides (verdict (drop_checks b)) b (ended b) refl;
   };
   update_waiting = λ b bytes. update_waiting (verdict (update_checks b bytes)) b (SettingsUpdate.resulting bytes b.waiting);
   start_in_force = λ b e. start_in_force (verdict (start_checks b)) b e;
   start_refused = λ b r e. start_refused (verdict (start_checks b)) b r e;
-  feed_keeps = λ b xs sums. same_settings (verdict (feed_checks b xs sums)) b (extended (length xs) b) (refl, refl);
-  read_out_keeps = λ b sums output. same_settings (verdict (read_out_checks b sums output)) b (ended b) (refl, refl);
+  feed_keeps = λ kind b xs sums. same_settings (verdict (feed_checks_in (engine_of kind) b xs sums)) b (extended (length xs) b) (refl, refl);
+  read_out_keeps = λ kind b sums output. same_settings (verdict (read_out_checks_in (engine_of kind) b sums output)) b (ended b) (refl, refl);
   drop_keeps = λ b. same_settings (verdict (drop_checks b)) b (ended b) (refl, refl);
   empty_feed = empty_feed;
-  one_by_one = one_by_one;
-  any_cut = any_cut;
-  taken_in_any_cut = taken_in_any_cut;
+  one_by_one = λ kind. one_by_one (engine_of kind) (stands_for kind);
+  any_cut = λ kind. any_cut (engine_of kind) (stands_for kind);
+  taken_in_any_cut = λ kind. taken_in_any_cut (engine_of kind) (stands_for kind);
 }

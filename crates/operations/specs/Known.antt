@@ -1,6 +1,8 @@
 -- Known answers of the operations, in tables that one statement covers: a row for each two checks that follow each other, where both would refuse, and one for
 -- each side of a bound.
-use Rattle.std.specs.Prelude.{ℕ, true, false, List, [], ◌∷◌, ◌≡◌, ℤ, pos, neg_ℤ, replicate, Result, Bool, Ok, Err}
+use Rattle.std.specs.Prelude.{ℕ, true, false, List, [], ◌∷◌, ◌≡◌, ℤ, pos, neg_ℤ, replicate, map, Result, Bool, Ok, Err}
+use Rattle.std.specs.Float.{binary64}
+use Rattle.std.specs.Float.Ieee.{of_bits}
 use Rattle.laws.specs.Tables.{AllHold}
 use Rattle.settings.specs.Settings.{defaults, with_weights, with_threshold, with_truncation, with_samples}
 use Rattle.checks.specs.declared.Reason.{Reason}
@@ -8,20 +10,21 @@ use Rattle.checks.specs.declared.Reason.TheVariants.{ShortRecord, RampRunning, N
 use Rattle.checks.specs.declared.Refusal.{Refusal}
 use Rattle.checks.specs.Checks.{Answer, refusal}
 use Rattle.entries.specs.Mark.{mark}
+use Rattle.engines.specs.Engine.{Kind, whole_numbers, floats, Entry, in_floats, engine_of}
 use Rattle.board.specs.declared.Board.{Board}
 use Rattle.board.specs.Board.{Outcome, opened, with_settings, with_ramp}
 use Rattle.operations.specs.Update.{update_of}
 use Rattle.operations.specs.Ramp.{start_of, drop_of}
-use Rattle.operations.specs.Feed.{feed_of}
-use Rattle.operations.specs.ReadOut.{read_out_of}
+use Rattle.operations.specs.Feed.{feed_in, feed_of}
+use Rattle.operations.specs.ReadOut.{read_out_in, read_out_of}
 use Rattle.operations.specs.Covered.{coverage_of}
 
 -- a call on a board, and its answer; and the board that a call leaves
 pub data Known : Type 0 where
   update : (b : Board) (bytes : List ℕ) (answer : Answer) → Known
   start : (b : Board) (answer : Answer) → Known
-  feed : (b : Board) (readings : List ℕ) (sums : List ℤ) (answer : Answer) → Known
-  read_out : (b : Board) (sums : List ℤ) (output : List ℕ) (answer : Answer) → Known
+  feed_by : (kind : Kind) (b : Board) (readings : List ℕ) (sums : List (Entry kind)) (answer : Answer) → Known
+  read_out_by : (kind : Kind) (b : Board) (sums : List (Entry kind)) (output : List ℕ) (answer : Answer) → Known
   drop : (b : Board) (answer : Answer) → Known
   covered : (b : Board) (says : Result Bool Refusal) → Known
   leaves : (outcome : Outcome) (left : Board) → Known
@@ -30,11 +33,25 @@ pub data Known : Type 0 where
 abbrev pub Holds : Known → Type 0
 Holds (update b bytes answer) = (update_of b bytes).answer ≡ answer
 Holds (start b answer) = (start_of b).answer ≡ answer
-Holds (feed b readings sums answer) = (feed_of b readings sums).answer ≡ answer
-Holds (read_out b sums output answer) = (read_out_of b sums output).answer ≡ answer
+Holds (feed_by kind b readings sums answer) = (feed_in (engine_of kind) b readings sums).answer ≡ answer
+Holds (read_out_by kind b sums output answer) = (read_out_in (engine_of kind) b sums output).answer ≡ answer
 Holds (drop b answer) = (drop_of b).answer ≡ answer
 Holds (covered b says) = coverage_of b ≡ says
 Holds (leaves outcome left) = outcome.board ≡ left
+
+-- in whole numbers
+abbrev feed : Board → List ℕ → List ℤ → Answer → Known
+feed b readings sums answer = feed_by whole_numbers b readings sums answer
+
+abbrev read_out : Board → List ℤ → List ℕ → Answer → Known
+read_out b sums output answer = read_out_by whole_numbers b sums output answer
+
+-- in floats, each by its 64-bit pattern
+abbrev float_feed : Board → List ℕ → List ℕ → Answer → Known
+float_feed b readings patterns answer = feed_by floats b readings (map (of_bits binary64) patterns) answer
+
+abbrev float_read_out : Board → List ℕ → List ℕ → Answer → Known
+float_read_out b patterns output answer = read_out_by floats b (map (of_bits binary64) patterns) output answer
 
 -- refused for a reason at a place
 abbrev at : Reason → ℕ → Answer
@@ -154,6 +171,58 @@ read_outs =
     ∷ read_out (two 18) (pos 0 ∷ pos 2211834 ∷ []) (0 ∷ 0 ∷ []) (at EntryNotPossible 1)
     ∷ []
 
+-- no number, of two patterns, the two infinities, -0, 128.5, 0.25 and 2^32 + 128
+abbrev strange_floats : List ℕ
+strange_floats =
+    0x7ff8_0000_0000_0000
+    ∷ 0xfff0_0000_0000_0001
+    ∷ 0x7ff0_0000_0000_0000
+    ∷ 0xfff0_0000_0000_0000
+    ∷ 0x8000_0000_0000_0000
+    ∷ 0x4060_1000_0000_0000
+    ∷ 0x3fd0_0000_0000_0000
+    ∷ 0x41f0_0000_0800_0000
+    ∷ []
+
+abbrev no_number : ℕ
+no_number = 0x7ff8_0000_0000_0000
+
+abbrev pub float_feeds : List Known
+float_feeds =
+    -- 13 before 14
+    float_feed (fed 1) (16384 ∷ []) (no_number ∷ []) (at ReadingRange 0)
+    -- 0, 128 and the mark of sample 1; the mark of sample 2, which comes later
+    ∷ float_feed (fed 1) (0 ∷ []) (0x0000_0000_0000_0000 ∷ []) (Ok tt)
+    ∷ float_feed (fed 1) (0 ∷ []) (0x4060_0000_0000_0000 ∷ []) (Ok tt)
+    ∷ float_feed (fed 1) (0 ∷ []) (0x41d0_0000_0040_0000 ∷ []) (Ok tt)
+    ∷ float_feed (fed 1) (0 ∷ []) (0x41d0_0000_0080_0000 ∷ []) (at EntryNotPossible 0)
+    -- sample 1 looks at no entry, nor does a Feed with no reading for it
+    ∷ float_feed (fed 0) (0 ∷ []) (no_number ∷ []) (Ok tt)
+    ∷ float_feed (fed 1) [] (no_number ∷ []) (Ok tt)
+    ∷ float_feed (two 1) (0 ∷ []) (no_number ∷ no_number ∷ []) (Ok tt)
+    ∷ float_feed (two 2) (0 ∷ []) (0x4060_0000_0000_0000 ∷ no_number ∷ []) (Ok tt)
+    -- the place of the first
+    ∷ float_feed (two 2) (0 ∷ 0 ∷ []) (0x4060_0000_0000_0000 ∷ no_number ∷ []) (at EntryNotPossible 1)
+    ∷ float_feed (two 2) (0 ∷ 0 ∷ []) (0x8000_0000_0000_0000 ∷ no_number ∷ []) (at EntryNotPossible 0)
+    -- none of these is an entry after sample 1
+    ∷ map (λ pattern. float_feed (fed 1) (0 ∷ []) (pattern ∷ []) (at EntryNotPossible 0)) strange_floats
+
+abbrev pub float_read_outs : List Known
+float_read_outs =
+    -- 16 before 14
+    float_read_out (fed 9) (no_number ∷ []) [] (at WordsLength 0)
+    -- 0; the largest sum, and one more; the mark of sample 9, and of sample 10
+    ∷ float_read_out (fed 9) (0x0000_0000_0000_0000 ∷ []) (0 ∷ []) (Ok tt)
+    ∷ float_read_out (fed 9) (0x4140_dffc_8000_0000 ∷ []) (0 ∷ []) (Ok tt)
+    ∷ float_read_out (fed 9) (0x4140_dffd_0000_0000 ∷ []) (0 ∷ []) (at EntryNotPossible 0)
+    ∷ float_read_out (fed 9) (0x41d0_0000_0240_0000 ∷ []) (0 ∷ []) (Ok tt)
+    ∷ float_read_out (fed 9) (0x41d0_0000_0280_0000 ∷ []) (0 ∷ []) (at EntryNotPossible 0)
+    -- the place of the first
+    ∷ float_read_out (two 18) (0x4060_0000_0000_0000 ∷ no_number ∷ []) (0 ∷ 0 ∷ []) (at EntryNotPossible 1)
+    ∷ float_read_out (two 18) (0x8000_0000_0000_0000 ∷ no_number ∷ []) (0 ∷ 0 ∷ []) (at EntryNotPossible 0)
+    -- none of these is an entry after sample 9
+    ∷ map (λ pattern. float_read_out (fed 9) (pattern ∷ []) (0 ∷ []) (at EntryNotPossible 0)) strange_floats
+
 abbrev pub drops : List Known
 drops =
     -- 99 before 10
@@ -186,8 +255,10 @@ boards =
     ∷ leaves (start_of (fed 4)) (fed 4)
     ∷ leaves (feed_of (fed 2) (0 ∷ 0 ∷ []) (pos 0 ∷ [])) (fed 4)
     ∷ leaves (feed_of (fed 9) (0 ∷ []) (pos 0 ∷ [])) (fed 9)
+    ∷ leaves (feed_in in_floats (fed 2) (0 ∷ 0 ∷ []) (of_bits binary64 0 ∷ [])) (fed 4)
     ∷ leaves (read_out_of short (pos 0 ∷ []) (0 ∷ [])) (with_settings defaults (with_samples 1 defaults) idle)
     ∷ leaves (read_out_of (fed 8) (pos 0 ∷ []) (0 ∷ [])) (fed 8)
+    ∷ leaves (read_out_in in_floats short (of_bits binary64 0 ∷ []) (0 ∷ [])) (with_settings defaults (with_samples 1 defaults) idle)
     ∷ leaves (drop_of short) (with_settings defaults (with_samples 1 defaults) idle)
     ∷ leaves (drop_of idle) idle
     ∷ []
@@ -198,6 +269,8 @@ pub record AllKnown : Type 0 where
   pub starts_known : AllHold Holds starts
   pub feeds_known : AllHold Holds feeds
   pub read_outs_known : AllHold Holds read_outs
+  pub float_feeds_known : AllHold Holds float_feeds
+  pub float_read_outs_known : AllHold Holds float_read_outs
   pub drops_known : AllHold Holds drops
   pub coverages_known : AllHold Holds coverages
   pub boards_known : AllHold Holds boards

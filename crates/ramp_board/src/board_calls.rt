@@ -3,8 +3,9 @@ ghost use Rattle.std.specs.Prelude.{◌≡◌};
 ghost use Rattle.checks.specs.Plain.{refusal_number, refusal_place};
 ghost use Rattle.operations.specs.Update.{update_of};
 ghost use Rattle.operations.specs.Ramp.{start_of, drop_of};
-ghost use Rattle.operations.specs.Feed.{feed_of, fed_sums};
-ghost use Rattle.operations.specs.ReadOut.{read_out_of, read_out_words};
+ghost use Rattle.engines.specs.Engine.{in_floats};
+ghost use Rattle.operations.specs.Feed.{feed_in, fed_sums_in, feed_of, fed_sums};
+ghost use Rattle.operations.specs.ReadOut.{read_out_in, read_out_words_in, read_out_of, read_out_words};
 ghost use Rattle.operations.specs.Covered.{coverage_of};
 ghost use Rattle.board_words.specs.Words.{held};
 ghost use Rattle.lent_board.specs.Lent.{open_answer, opened_words, words_left};
@@ -85,6 +86,38 @@ pub extern "C" fn ramp_read_out(
     ensures words { words.new ≡ read_out_words (held board.old) sums.now words.old }
 {
     number_and_place(lent_board::read_out(board, sums, words), place)
+}
+
+/// Feed with the sums in 64-bit floats, refused as `ramp_feed`.
+#[unsafe(no_mangle)]
+pub extern "C" fn ramp_feed_floats(
+    board: &mut [i64],
+    readings: &[u16],
+    floats: &mut [f64],
+    place: &mut usize,
+) -> u8
+    ensures number { result ≡ refusal_number (feed_in in_floats (held board.old) readings.now floats.old).answer }
+    ensures place { place.new ≡ refusal_place (feed_in in_floats (held board.old) readings.now floats.old).answer }
+    ensures board { board.new ≡ words_left (feed_in in_floats (held board.old) readings.now floats.old) board.old }
+    ensures sums { floats.new ≡ fed_sums_in in_floats (held board.old) readings.now floats.old }
+{
+    number_and_place(lent_board::feed(board, readings, floats), place)
+}
+
+/// Read out with the sums in 64-bit floats, refused as `ramp_read_out`.
+#[unsafe(no_mangle)]
+pub extern "C" fn ramp_read_out_floats(
+    board: &mut [i64],
+    floats: &[f64],
+    words: &mut [u16],
+    place: &mut usize,
+) -> u8
+    ensures number { result ≡ refusal_number (read_out_in in_floats (held board.old) floats.now words.old).answer }
+    ensures place { place.new ≡ refusal_place (read_out_in in_floats (held board.old) floats.now words.old).answer }
+    ensures board { board.new ≡ words_left (read_out_in in_floats (held board.old) floats.now words.old) board.old }
+    ensures words { words.new ≡ read_out_words_in in_floats (held board.old) floats.now words.old }
+{
+    number_and_place(lent_board::read_out(board, floats, words), place)
 }
 
 /// Drop, as `lent_board::drop`, refused in the order 99, 10.

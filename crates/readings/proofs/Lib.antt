@@ -1,3 +1,2 @@
--- Readings are in range exactly where their bits together are, and what a fold leaves.
+-- Readings are in range exactly where their bits together are.
 pub mod Bits
-pub mod Folded

@@ -10,6 +10,7 @@ use std::io::Read;
 use std::process::ExitCode;
 use std::rt::Env;
 
+mod buffers;
 mod player;
 mod show;
 

@@ -1,6 +1,8 @@
-//! The commands of a script, played on a board, on the sums that are lent and on the words.
+//! The commands of a script, played on a board, on the sums and the floats that are lent and on the words.
+ghost use Rattle.std.specs.Prelude.{◌≤◌};
 ghost use Rattle.replay_commands.specs.Ranges.{InRange};
 
+use crate::buffers::Buffers;
 use crate::show::{Answered, Flag, Flags, Meaning, Shown, Tens};
 use arrayvec::ArrayVec;
 use board::Board;
@@ -11,25 +13,24 @@ use flags::{count_flags, nearest_flag};
 use meaning::read_word;
 use places::Frame;
 use read_out::read_out;
-use replay_commands::Command;
-use replay_items::{MOST, Numbers, bytes_of, shorts_of};
+use replay_commands::{AnyEntry, Command, Kind};
+use replay_items::{MOST, Numbers, bytes_of, halves_of, shorts_of};
 use replay_script::said;
 use settings::Settings;
 use sides::Sides;
 use std::fmt::{self, Write};
-use std::mem;
 
-// A board, the sums that are lent and the spare ones, and the words.
+// A board, the sums and the floats, and the words.
 #[derive(Drop)]
 pub(crate) struct Player {
     board: Board,
-    sums: ArrayVec<i32, MOST>,
-    spare: ArrayVec<i32, MOST>,
+    sums: Buffers<i32>,
+    floats: Buffers<f64>,
     words: ArrayVec<u16, MOST>,
 }
 
 impl Player {
-    // No board is open, and the sums and the words are empty. No `Option`: until one is open a replay shows and calls this board of no pixels, which is not sound.
+    // No board is open, and the sums, the floats and the words are empty. No `Option`: until one is open a replay shows and calls this board of no pixels, which is not sound.
     pub(crate) fn new() -> Player {
         Player {
             board: Board {
@@ -43,8 +44,8 @@ impl Player {
                 running: false,
                 fed: 0,
             },
-            sums: ArrayVec::new(),
-            spare: ArrayVec::new(),
+            sums: Buffers::new(),
+            floats: Buffers::new(),
             words: ArrayVec::new(),
         }
     }
@@ -55,11 +56,22 @@ impl Player {
         Ok(())
     }
 
+    fn feed(&mut self, kind: Kind, readings: &[u16]) -> Answer {
+        match kind {
+            Kind::WholeNumbers => feed(&mut self.board, readings, self.sums.lent_mut()),
+            Kind::Floats => feed(&mut self.board, readings, self.floats.lent_mut()),
+        }
+    }
+
     // Read out. A taken one leaves its frame as the words.
-    fn read_out(&mut self, count: usize) -> Answer {
+    fn read_out(&mut self, kind: Kind, count: usize) -> Answer {
         let mut frame = ArrayVec::from([0; MOST]);
         frame.truncate(count);
-        read_out(&mut self.board, self.sums.as_slice(), frame.as_mut_slice())?;
+        let words = frame.as_mut_slice();
+        match kind {
+            Kind::WholeNumbers => read_out(&mut self.board, self.sums.lent(), words)?,
+            Kind::Floats => read_out(&mut self.board, self.floats.lent(), words)?,
+        }
         self.words = frame;
         Ok(())
     }
@@ -72,8 +84,8 @@ impl Player {
     }
 
     // Read out, and the frame if it is taken.
-    fn frame(&mut self, out: &mut impl Write, count: usize) -> fmt::Result {
-        let answer = self.read_out(count);
+    fn frame(&mut self, out: &mut impl Write, kind: Kind, count: usize) -> fmt::Result {
+        let answer = self.read_out(kind, count);
         self.show(out, answer)?;
         if answer.is_ok() {
             write!(out, "{}", Tens(self.words.as_slice()))?;
@@ -81,12 +93,45 @@ impl Player {
         Ok(())
     }
 
-    fn poke(&mut self, out: &mut impl Write, index: usize, entry: i32) -> fmt::Result {
-        let Some(old) = self.sums.get_mut(index) else {
-            return writeln!(out, "outside");
-        };
-        *old = entry;
-        writeln!(out, "taken")
+    fn replace(&mut self, length: usize, entry: AnyEntry) {
+        match entry {
+            AnyEntry::WholeNumber(entry) => self.sums.replace(length, entry),
+            AnyEntry::Float(entry) => self.floats.replace(length, entry),
+        }
+    }
+
+    fn poke(&mut self, index: usize, entry: AnyEntry) -> bool {
+        match entry {
+            AnyEntry::WholeNumber(entry) => self.sums.poke(index, entry),
+            AnyEntry::Float(entry) => self.floats.poke(index, entry),
+        }
+    }
+
+    fn swap(&mut self, kind: Kind) {
+        match kind {
+            Kind::WholeNumbers => self.sums.swap(),
+            Kind::Floats => self.floats.swap(),
+        }
+    }
+
+    // Some entries of a kind, from a place on: whole numbers as they are, floats by the halves of their patterns.
+    fn print(&self, out: &mut impl Write, kind: Kind, start: usize, count: usize) -> fmt::Result
+        requires { (start ≤ 4096) × (count ≤ 4096) }
+    {
+        let places = start..start + count;
+        match kind {
+            Kind::WholeNumbers => match self.sums.lent().get(places) {
+                Some(sums) => write!(out, "taken\n{}", Tens(sums)),
+                None => writeln!(out, "outside"),
+            },
+            Kind::Floats => match self.floats.lent().get(places) {
+                Some(floats) => {
+                    let halves = halves_of(floats);
+                    write!(out, "taken\n{}", Tens(&halves[..2 * count]))
+                }
+                None => writeln!(out, "outside"),
+            },
+        }
     }
 
     // The words as a frame: a command names the width and the height, and the words stand here.
@@ -120,13 +165,12 @@ impl Player {
                 let answer = control::start(&mut self.board);
                 self.show(out, answer)
             }
-            Command::Feed { count, same } => {
+            Command::Feed { kind, count, same } => {
                 let readings = shorts_of(same, list);
-                let sums = self.sums.as_mut_slice();
-                let answer = feed(&mut self.board, &readings[..count], sums);
+                let answer = self.feed(kind, &readings[..count]);
                 self.show(out, answer)
             }
-            Command::ReadOut(count) => self.frame(out, count),
+            Command::ReadOut { kind, count } => self.frame(out, kind, count),
             Command::Drop => {
                 let answer = control::drop(&mut self.board);
                 self.show(out, answer)
@@ -147,25 +191,19 @@ impl Player {
                     Answered(read_word(truncation, word).map(Meaning))
                 )
             }
-            Command::Sums { length, entry } => {
-                self.sums = ArrayVec::from([entry; MOST]);
-                self.sums.truncate(length);
+            Command::Replace { length, entry } => {
+                self.replace(length, entry);
                 writeln!(out, "taken")
             }
-            Command::Poke { index, entry } => self.poke(out, index, entry),
-            Command::Swap => {
-                mem::swap(&mut self.sums, &mut self.spare);
+            Command::Poke { index, entry } => {
+                let inside = self.poke(index, entry);
+                writeln!(out, "{}", if inside { "taken" } else { "outside" })
+            }
+            Command::Swap(kind) => {
+                self.swap(kind);
                 writeln!(out, "taken")
             }
-            Command::PrintSums { start, count } => {
-                match self.sums.as_slice().get(start..start + count) {
-                    Some(sums) => {
-                        writeln!(out, "taken")?;
-                        write!(out, "{}", Tens(sums))
-                    }
-                    None => writeln!(out, "outside"),
-                }
-            }
+            Command::Print { kind, start, count } => self.print(out, kind, start, count),
             Command::Words(count) => {
                 self.words = ArrayVec::from(shorts_of(false, list));
                 self.words.truncate(count);

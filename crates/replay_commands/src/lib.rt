@@ -4,47 +4,67 @@
 ghost use Rattle.std.specs.Prelude.{◌≡◌, ◌≤◌, IfOk, OkIff, true, pos, neg_ℤ, ◌≤ℤ◌};
 ghost use Rattle.board_words.specs.Words.{holds_board, held};
 ghost use Rattle.replay_items.specs.Items.{natural_of, entry_of};
+ghost use Rattle.replay_items.specs.Patterns.{float_of_halves};
 ghost use Rattle.replay_commands.specs.Ranges.{InRange};
 ghost use Rattle.replay_commands.specs.declared.Command.TheVariants.{Board as BoardCommand};
 
 use board::Board;
 use board_words::{held, holds_board};
 use places::Place;
-use replay_items::MOST;
+use replay_items::{MOST, float_of_halves};
 use sides::Sides;
 use std::num::TryFromIntError;
+
+/// The two kinds of buffers, by their entries: whole numbers, `sums` in a script, and floats.
+#[derive(Clone, Copy, Debug, PartialEq, Eq)]
+pub enum Kind {
+    WholeNumbers,
+    Floats,
+}
+
+/// An entry of either kind.
+#[derive(Clone, Copy, Debug, PartialEq)]
+pub enum AnyEntry {
+    WholeNumber(i32),
+    Float(f64),
+}
 
 /// `Update`, `Feed` and `Words` count their items, which stay in the list: a command is copied, and one with room for 4,096 items would be copied whole. No slices of
 /// the list: a `fill` has one reading for all, so a count stands there in any case, beside `same`. `Nearest` and `Count` have a width and a height as the script names
 /// them: a `Frame` needs the words too. That a command is in range, `InRange`, stands in the contracts of what makes one and of what plays it: a type for it would hold the
 /// command and be taken apart at once.
-#[derive(Clone, Copy, Debug, PartialEq, Eq)]
+#[derive(Clone, Copy, Debug, PartialEq)]
 pub enum Command {
     Open(Sides),
     Board(Board),
     Update(usize),
     Start,
     Feed {
+        kind: Kind,
         count: usize,
         same: bool,
     },
-    ReadOut(usize),
+    ReadOut {
+        kind: Kind,
+        count: usize,
+    },
     Drop,
     Covered,
     Word {
         word: u16,
         truncation: u16,
     },
-    Sums {
+    Replace {
         length: usize,
-        entry: i32,
+        entry: AnyEntry,
     },
     Poke {
         index: usize,
-        entry: i32,
+        entry: AnyEntry,
     },
-    Swap,
-    PrintSums {
+    Swap(Kind),
+    Print {
+        kind: Kind,
         start: usize,
         count: usize,
     },
@@ -85,10 +105,35 @@ fn up_to(n: i64, highest: usize) -> Result<usize, Malformed>
 }
 
 // A number of 32 bits with a sign.
-fn entry(n: i64) -> Result<i32, Malformed>
+fn whole_number(n: i64) -> Result<i32, Malformed>
     ensures { OkIff result ((neg_ℤ (pos 2147483648) ≤ℤ n) × (n ≤ℤ pos 2147483647)) (entry_of n) }
 {
     Ok(i32::try_from(n)?)
+}
+
+// A float by the halves of its pattern, each a number of 32 bits with no sign.
+fn float(high: i64, low: i64) -> Result<f64, Malformed>
+    ensures { OkIff result (((pos 0 ≤ℤ high) × (high ≤ℤ pos 4294967295)) × (pos 0 ≤ℤ low) × (low ≤ℤ pos 4294967295)) (float_of_halves (natural_of high) (natural_of low)) }
+{
+    Ok(float_of_halves(u32::try_from(high)?, u32::try_from(low)?))
+}
+
+// The kind of the entries that a command's word names: those of the sums if it names none.
+fn kind_named(word: &[u8]) -> Kind {
+    if word.ends_with(b"floats") {
+        Kind::Floats
+    } else {
+        Kind::WholeNumbers
+    }
+}
+
+// An entry of the kind that a command's word names.
+fn entry_named(word: &[u8], numbers: &[i64]) -> Result<AnyEntry, Malformed> {
+    match (kind_named(word), numbers) {
+        (Kind::WholeNumbers, [n]) => Ok(AnyEntry::WholeNumber(whole_number(*n)?)),
+        (Kind::Floats, [high, low]) => Ok(AnyEntry::Float(float(*high, *low)?)),
+        _ => Err(Malformed),
+    }
 }
 
 // A place of a frame, by its row and its column.
@@ -155,34 +200,40 @@ pub fn named(word: &[u8], list: &[i64]) -> Result<Command, Malformed>
         (b"board", numbers) => Ok(Command::Board(board(numbers)?)),
         (b"update", [count, bytes @ ..]) => Ok(Command::Update(counted::<u8>(*count, bytes)?)),
         (b"start", []) => Ok(Command::Start),
-        (b"feed", [count, readings @ ..]) => Ok(Command::Feed {
+        (b"feed" | b"feed floats", [count, readings @ ..]) => Ok(Command::Feed {
+            kind: kind_named(word),
             count: counted::<u16>(*count, readings)?,
             same: false,
         }),
-        (b"fill", [count, reading]) => {
+        (b"fill" | b"fill floats", [count, reading]) => {
             u16::try_from(*reading)?;
             Ok(Command::Feed {
+                kind: kind_named(word),
                 count: up_to(*count, MOST)?,
                 same: true,
             })
         }
-        (b"readout", [count]) => Ok(Command::ReadOut(up_to(*count, MOST)?)),
+        (b"readout" | b"readout floats", [count]) => Ok(Command::ReadOut {
+            kind: kind_named(word),
+            count: up_to(*count, MOST)?,
+        }),
         (b"drop", []) => Ok(Command::Drop),
         (b"covered", []) => Ok(Command::Covered),
         (b"word", [word, truncation]) => Ok(Command::Word {
             word: u16::try_from(*word)?,
             truncation: u16::from(u8::try_from(*truncation)?),
         }),
-        (b"sums", [length, value]) => Ok(Command::Sums {
+        (b"sums" | b"floats", [length, numbers @ ..]) => Ok(Command::Replace {
             length: up_to(*length, MOST)?,
-            entry: entry(*value)?,
+            entry: entry_named(word, numbers)?,
         }),
-        (b"poke", [index, value]) => Ok(Command::Poke {
+        (b"poke" | b"poke floats", [index, numbers @ ..]) => Ok(Command::Poke {
             index: up_to(*index, MOST - 1)?,
-            entry: entry(*value)?,
+            entry: entry_named(word, numbers)?,
         }),
-        (b"swap", []) => Ok(Command::Swap),
-        (b"print sums", [start, count]) => Ok(Command::PrintSums {
+        (b"swap" | b"swap floats", []) => Ok(Command::Swap(kind_named(word))),
+        (b"print sums" | b"print floats", [start, count]) => Ok(Command::Print {
+            kind: kind_named(word),
             start: up_to(*start, MOST)?,
             count: up_to(*count, MOST)?,
         }),

@@ -1,2 +1,4 @@
--- The numbers of a line, and the items of a list.
+-- The numbers of a line, the items of a list, and the patterns of floats.
 pub mod Items
+pub mod Patterns
+pub mod Laws

@@ -1,17 +1,27 @@
-//! The numbers of a line: one alone, or all that follow a count, as the bytes of a record or as numbers of 16 bits.
+//! The numbers of a line: one alone, or all that follow a count, as the bytes of a record or as numbers of 16 bits; and floats, each as two numbers.
 #![tactic(auto)]
 
 ghost use Rattle.std.specs.Prelude.{◌≡◌, cond, ◌+◌, ◌<◌, pos, length, get_or};
 ghost use Rattle.replay_items.specs.Items.{up_to, byte_items, short_items};
+ghost use Rattle.replay_items.specs.Patterns.{float_of_halves, pattern_at, half, halves};
 
 use arrayvec::ArrayVec;
-use std::array;
+use std::{array, num};
 
 /// The most entries of the sums, readings of a feed, bytes of a record and words.
 pub const MOST: usize = 4096;
 
 /// The most numbers of a line: a count, and the items that it counts.
 pub const COUNT: usize = MOST + 1;
+
+/// The halves of the patterns of the most floats.
+pub const HALVES: usize = 2 * MOST;
+
+// The halves of a pattern are below it.
+const HALF_RANGE: u64 = 4294967296;
+
+// The pattern that stands for each pattern of no number.
+const NO_NUMBER: u64 = 2146959360 * HALF_RANGE;
 
 /// The numbers of a line.
 pub type Numbers = ArrayVec<i64, COUNT>;
@@ -61,4 +71,40 @@ pub fn shorts_of(same: bool, list: &[i64]) -> [u16; MOST]
     ensures items { result ≡ short_items same list.now }
 {
     array::from_fn(|i| short(item(list, place(i, same))))
+}
+
+/// The float of a pattern, by its halves. Every pattern of no number gives one and the same.
+pub fn float_of_halves(high: u32, low: u32) -> f64
+    ensures { result ≡ float_of_halves high low }
+{
+    num::f64_from_bits_with_nan(u64::from(high) * HALF_RANGE + u64::from(low))
+}
+
+// The pattern of the float at a place of a list.
+fn pattern_at(floats: &[f64], i: usize) -> u64
+    ensures { result ≡ pattern_at floats.now i }
+{
+    match floats.get(i) {
+        Some(float) => num::f64_to_bits_with_nan(*float),
+        None => NO_NUMBER,
+    }
+}
+
+// The high half of a pattern at an even place, the low one at an odd place.
+fn half(i: usize, pattern: u64) -> u32
+    ensures { result ≡ half i pattern }
+{
+    if i % 2 == 0 {
+        (pattern / HALF_RANGE) as u32
+    } else {
+        (pattern % HALF_RANGE) as u32
+    }
+}
+
+/// The halves of the patterns of floats, the high one of each first: for all floats that a list can have, of which as many count as there are.
+pub fn halves_of(floats: &[f64]) -> [u32; HALVES]
+    ensures count { 8192 ≡ length result }
+    ensures items { result ≡ halves floats.now }
+{
+    array::from_fn(|i| half(i, pattern_at(floats, i / 2)))
 }

@@ -1,10 +1,10 @@
 //! A script of calls on a board: its lines, and what each of them says.
 #![tactic(auto)]
 
-ghost use Rattle.std.specs.Prelude.{◌≡◌, ◌==◌, ◌≤◌, max, [], length, IfOk, IfSome, MatchOption};
+ghost use Rattle.std.specs.Prelude.{◌≡◌, ◌==◌, ◌<◌, ◌≤◌, max, [], length, IfOk, IfSome, MatchOption};
 ghost use Rattle.std.specs.List.{position};
 ghost use Rattle.std.specs.Iterator.{at_most};
-ghost use Rattle.replay_script.specs.Lines.{position_or_end, line_end, NextLine, Numbered};
+ghost use Rattle.replay_script.specs.Lines.{position_or_end, begins_number, word_end, line_end, NextLine, Numbered};
 ghost use Rattle.replay_commands.specs.Ranges.{InRange};
 
 use crate::numbers::read_numbers;
@@ -29,14 +29,29 @@ fn position_or_end(bytes: &[u8], byte: u8) -> usize
     position_of(bytes, byte).unwrap_or(bytes.len())
 }
 
-// Where the word of a line ends.
-fn word_end(line: &[u8]) -> usize
-    ensures { result ≤ length line.now }
+// Whether a byte begins a number.
+fn begins_number(byte: u8) -> bool
+    ensures { result ≡ begins_number byte }
 {
-    if line.starts_with(b"print sums") {
-        10
-    } else {
-        position_or_end(line, b' ')
+    byte == b'-' || byte.is_ascii_digit()
+}
+
+// Where the first number of a line begins.
+fn first_number(line: &[u8]) -> Option<usize>
+    ensures place { result ≡ position begins_number line.now }
+    ensures bound { IfSome result (λ first. first < length line.now) }
+{
+    line.iter().position(|byte| begins_number(*byte))
+}
+
+// Where the word of a line ends: before the space in front of its first number. A word may have a space of its own, as in `print sums`.
+fn word_end(line: &[u8]) -> usize
+    ensures place { result ≡ word_end line.now }
+    ensures bound { result ≤ length line.now }
+{
+    match first_number(line) {
+        Some(first) => first.saturating_sub(1),
+        None => line.len(),
     }
 }
 

@@ -1,4 +1,5 @@
 -- The laws of one step.
+pub mod Numbers
 pub mod Products
 pub mod Steps
 pub mod Laws

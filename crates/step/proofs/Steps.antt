@@ -7,15 +7,16 @@ use Prim.Native.Nat.{ℕ, zero, suc, ◌≤◌, ◌<◌}
 use mathlib.Core.Bool.{Bool, true, false, cond}
 use mathlib.Core.Logic.{inl, inr, ⊎_elim}
 use mathlib.Core.Path.{◌≡◌, refl}
-use borrow.Author.Tests.{ne_eqb}
+use borrow.Author.Tests.{ne_eqb, ltb-false, le-leb}
 use native.Mathlib.Omega.{arith}
 use lib.IntN.{ℤ, pos, ◌+ℤ◌, ◌*ℤ◌}
 use Rattle.laws.proofs.Ints.{sum, is_le, not_le}
+use Rattle.laws.proofs.Tests.{cases}
 use Rattle.settings.specs.declared.Settings.{Settings}
 use Rattle.settings.specs.Settings.{weight_in_range, weight_at}
 use Rattle.settings.proofs.Parts.{InRange}
 use Rattle.entries.specs.Mark.{mark}
-use Rattle.readings.specs.Readings.{reading_in_range}
+use Rattle.readings.specs.Readings.{max_reading, reading_in_range}
 use Rattle.entries.specs.Possible.{possible_after, possible}
 use Rattle.entries.specs.SupportRange.{entry_in_range}
 use Rattle.entries.proofs.Possible.{Mark, Near, fair, is_fair}
@@ -55,6 +56,12 @@ any_step w above (suc k) e x hw hx few h =
     rw (later_adds (suc (suc k)) e (omega arith))
     (⊎_elim (λ m. mark_step w x hw hx (suc k) few e m above) (λ m. near_step w x hw hx (suc k) few e m above) (fair (suc k) e (h (omega arith))))
 
-pub possible_step : (s : Settings) → InRange s → (k : ℕ) (e : ℤ) (x : ℕ) → k ≤ 8 → reading_in_range x ≡ true → (0 < k → possible s k e ≡ true) → possible s (suc k) (step s (suc k) e x) ≡ true
+-- whatever the reading: one that is out of range is over any threshold, and then its size doesn't matter
+pub possible_step : (s : Settings) → InRange s → (k : ℕ) (e : ℤ) (x : ℕ) → k ≤ 8 → (0 < k → possible s k e ≡ true) → possible s (suc k) (step s (suc k) e x) ≡ true
 unfolding step
-possible_step s r k e x few ok h = any_step (weight_at s (suc k)) (over_it s (suc k) x) k e x (weight_in_range_lem s r (suc k)) ok few h
+possible_step s r k e x few h =
+    let w = weight_at s (suc k) in
+    let hw = weight_in_range_lem s r (suc k) in
+    cases (over_it s (suc k) x)
+    (λ t. rw t (any_step w true k e 0 hw refl few h))
+    (λ t. rw t (any_step w false k e x hw (le-leb x max_reading (omega (arith, ltb-false s.threshold x t, r.threshold))) few h))

@@ -9,6 +9,6 @@ use Rattle.step.specs.Step.{over_it, step}
 pub record StepLaws : Type 0 where
   -- the largest threshold marks nothing
   pub largest_marks_nothing : (s : Settings) → s.threshold ≡ max_threshold → (n x : ℕ) → reading_in_range x ≡ true → over_it s n x ≡ false
-  -- a step takes an entry that is possible for k to one that is possible for k + 1; sample 1 takes any entry to one that is possible for 1
-  pub stays_possible : (s : Settings) → in_range s ≡ true → (k : ℕ) (e : ℤ) (x : ℕ) → k ≤ 8 → reading_in_range x ≡ true
+  -- a step by any reading takes an entry that is possible for k to one that is possible for k + 1, and at sample 1 any entry to one that is possible for 1
+  pub stays_possible : (s : Settings) → in_range s ≡ true → (k : ℕ) (e : ℤ) (x : ℕ) → k ≤ 8
       → (0 < k → possible s k e ≡ true) → possible s (suc k) (step s (suc k) e x) ≡ true

@@ -16,7 +16,6 @@ use Rattle.laws.proofs.Firsts.{Nowhere, Says, first_says, first_same, sum_same}
 use Rattle.settings.specs.declared.Settings.{Settings}
 use Rattle.settings.proofs.Parts.{InRange}
 use Rattle.entries.specs.Mark.{mark, marked, sample_of}
-use Rattle.readings.specs.Readings.{reading_in_range}
 use Rattle.entries.specs.Possible.{possible}
 use Rattle.entries.proofs.Marks.{is_marked, sample_is, sample_none}
 use Rattle.step.specs.Step.{over_it, sum_or_mark, step}
@@ -60,11 +59,11 @@ module _ (s : Settings) (r : InRange s) (x : ℕ → ℕ) where
   entry_step zero e q = next_entry 0
   entry_step (suc k) e q = rw (later_adds (suc (suc k)) e (omega arith), q (omega arith)) (next_entry (suc k))
 
-  pub entry_possible : ((n : ℕ) → reading_in_range (x n) ≡ true) → (k : ℕ) → k ≤ 9 → 0 < k → possible s k (entry_after s k x) ≡ true
-  entry_possible ok zero few l = absurd (omega arith)
-  entry_possible ok (suc k) few l =
+  pub entry_possible : (k : ℕ) → k ≤ 9 → 0 < k → possible s k (entry_after s k x) ≡ true
+  entry_possible zero few l = absurd (omega arith)
+  entry_possible (suc k) few l =
       rw (← entry_step k (entry_after s k x) (λ l. refl))
-      (possible_step s r k (entry_after s k x) (x (suc k)) (omega arith) (ok (suc k)) (entry_possible ok k (omega arith)))
+      (possible_step s r k (entry_after s k x) (x (suc k)) (omega arith) (entry_possible k (omega arith)))
 
 pub entry_same : (s : Settings) (x y : ℕ → ℕ) (k : ℕ) → ((n : ℕ) → 1 ≤ n → n ≤ k → x n ≡ y n) → entry_after s k x ≡ entry_after s k y
 entry_same s x y k h =

@@ -11,20 +11,17 @@ use native.Mathlib.Omega.{arith}
 use lib.Arith.{digits_mod}
 use lib.ListN.{length, get_or}
 use lib.Seq.{get_or-set_same, get_or-set_other}
-use Rattle.laws.specs.Lists.{every}
-use Rattle.laws.proofs.Tests.{and_true}
-use Rattle.readings.specs.Readings.{reading_in_range}
 use Rattle.sums.specs.Feed.{feed_one, feed_all}
 use Rattle.written.proofs.Intervals.{Ready}
 use Rattle.written.proofs.Places.{same_sample, place, few}
 use Rattle.sums.proofs.Feeding.{one_length}
 
 module _ {E : Type 0} (absent : E) (step : ℕ → E → ℕ → E) (test : ℕ → E → Bool) (m : ℕ) (some : 0 < m)
-    (keeps : (k : ℕ) (e : E) (x : ℕ) → k ≤ 8 → reading_in_range x ≡ true → (0 < k → test k e ≡ true) → test (suc k) (step (suc k) e x) ≡ true) where
+    (keeps : (k : ℕ) (e : E) (x : ℕ) → k ≤ 8 → (0 < k → test k e ≡ true) → test (suc k) (step (suc k) e x) ≡ true) where
   abbrev ready : ℕ → ℕ → List E → Type 0
   ready = Ready absent test m
 
-  module _ (f x count : ℕ) (ss : List E) (ok : reading_in_range x ≡ true) (room : f < 9 * m) (whole : length ss ≡ m) (before : ready f (suc count) ss) where
+  module _ (f x count : ℕ) (ss : List E) (room : f < 9 * m) (whole : length ss ≡ m) (before : ready f (suc count) ss) where
     abbrev n : ℕ
     n = f / m
 
@@ -46,7 +43,7 @@ module _ {E : Type 0} (absent : E) (step : ℕ → E → ℕ → E) (test : ℕ 
     at_pixel p k h lo hi c pos (yes e) =
         let l : q < length ss = rw whole here.1 in
         rw (e, get_or-set_same ss q _ absent l, same_sample m q k (suc n) (rw suc-mul (omega (arith, here))) (rw suc-mul (omega (arith, here))))
-        (keeps n (get_or ss q absent) x (few f m some room) ok (before q n here.1 (omega (arith, here)) (omega (arith, here)) (omega (arith, here))))
+        (keeps n (get_or ss q absent) x (few f m some room) (before q n here.1 (omega (arith, here)) (omega (arith, here)) (omega (arith, here))))
     at_pixel p k h lo hi c pos (no ne) =
         rw (get_or-set_other ss q p _ absent ne) (before p k h (omega arith) (other p k h ne hi) (omega arith) pos)
 
@@ -54,12 +51,11 @@ module _ {E : Type 0} (absent : E) (step : ℕ → E → ℕ → E) (test : ℕ 
     unfolding Ready
     ready_one p k h lo hi c pos = at_pixel p k h lo hi c pos (ℕ_discrete p q)
 
-  pub ready_all : (xs : List ℕ) (f count : ℕ) (ss : List E) → every reading_in_range xs ≡ true → f + length xs ≤ 9 * m → length ss ≡ m
+  pub ready_all : (xs : List ℕ) (f count : ℕ) (ss : List E) → f + length xs ≤ 9 * m → length ss ≡ m
       → ready f (length xs + count) ss → ready (f + length xs) count (feed_all absent step m f xs ss)
-  unfolding feed_all every
-  ready_all [] f count ss ok room whole h = rw add-zero (rw (let z : 0 + count ≡ count = omega arith in z) at h)
-  ready_all (x ∷ xs) f count ss ok room whole h =
-      let o = and_true (reading_in_range x) (every reading_in_range xs) ok in
+  unfolding feed_all
+  ready_all [] f count ss room whole h = rw add-zero (rw (let z : 0 + count ≡ count = omega arith in z) at h)
+  ready_all (x ∷ xs) f count ss room whole h =
       rw (add-suc, ← suc-add)
-      (ready_all xs (suc f) count (feed_one absent step m f x ss) o.1 (omega arith) (one_length absent step m f x ss ∙ whole)
-      (ready_one f x (length xs + count) ss o.0 (omega arith) whole (rw suc-add at h)))
+      (ready_all xs (suc f) count (feed_one absent step m f x ss) (omega arith) (one_length absent step m f x ss ∙ whole)
+      (ready_one f x (length xs + count) ss (omega arith) whole (rw suc-add at h)))

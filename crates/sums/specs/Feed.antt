@@ -1,7 +1,7 @@
 -- Feed, one reading at a time. The definitions hold for any kind of entry and any step; `absent` stands for an entry past the end, where none is asked for.
-use Rattle.std.specs.Prelude.{ℕ, suc, ◌/◌, ◌%◌, List, [], ◌∷◌, ℤ, pos, length, get_or, set}
+use Rattle.std.specs.Prelude.{ℕ, suc, ◌/◌, ◌%◌, List, [], ◌∷◌, ℤ, length, get_or, set}
 use Rattle.settings.specs.declared.Settings.{Settings}
-use Rattle.step.specs.Step.{step}
+use Rattle.engines.specs.Engine.{Engine, step_in, in_whole_numbers}
 
 -- the array comes whole, row by row, for each sample: reading number f (from 0) of a ramp on m pixels is that of pixel f mod m at sample f div m + 1
 abbrev pub pixel_of_reading : ℕ → ℕ → ℕ
@@ -22,5 +22,9 @@ feed_all absent step m f [] sums = sums
 feed_all absent step m f (x ∷ xs) sums = feed_all absent step m (suc f) xs (feed_one absent step m f x sums)
 
 -- the sums, one for each pixel, after the readings from number f on
+abbrev pub sums_in : {E : Type 0} → Engine E → Settings → ℕ → List ℕ → List E → List E
+sums_in engine s f readings sums = feed_all engine.absent (step_in engine s) (length sums) f readings sums
+
+-- in whole numbers
 abbrev pub sums_after : Settings → ℕ → List ℕ → List ℤ → List ℤ
-sums_after s f readings sums = feed_all (pos 0) (step s) (length sums) f readings sums
+sums_after s f readings sums = sums_in in_whole_numbers s f readings sums

@@ -23,9 +23,10 @@ use Rattle.update.proofs.Overlong.{longest, overlong}
 use Rattle.board.specs.declared.Board.{Board}
 use Rattle.board.specs.Board.{board_area, wanted, unsound}
 use Rattle.board.specs.Open.{open_of}
+use Rattle.engines.specs.Engine.{in_whole_numbers}
 use Rattle.operations.specs.Update.{update_of}
 use Rattle.board.specs.RampChecks.{ramp_checks}
-use Rattle.operations.specs.Feed.{reading_checks, feed_checks, feed_of}
+use Rattle.operations.specs.Feed.{reading_checks_in, feed_checks_in, feed_in}
 use Rattle.board.proofs.Soundness.{sound_parts, wanted_nine}
 use Rattle.board.proofs.Checked.{ramp_taken}
 use Rattle.begin.specs.Begin.{updated, started}
@@ -34,11 +35,11 @@ use Rattle.whole_frame.specs.Chain.{frame_answer, frame_words}
 
 -- what Feed answers to too many readings
 crowded : (b : Board) (xs : List ℕ) (sums : List ℤ) → 9 * board_area b < length xs
-    → verdict (feed_checks b xs sums) ≡ first (verdict (ramp_checks b (length sums))) (Err (refusal TooManyReadings))
+    → verdict (feed_checks_in in_whole_numbers b xs sums) ≡ first (verdict (ramp_checks b (length sums))) (Err (refusal TooManyReadings))
 unfolding verdict
-crowded b xs sums h = verdict_append (ramp_checks b (length sums)) (reading_checks b xs sums) ∙ by (verdict (ramp_checks b (length sums))) refl
+crowded b xs sums h = verdict_append (ramp_checks b (length sums)) (reading_checks_in in_whole_numbers b xs sums) ∙ by (verdict (ramp_checks b (length sums))) refl
   where
-    by : (a : Answer) → verdict (ramp_checks b (length sums)) ≡ a → first a (verdict (reading_checks b xs sums)) ≡ first a (Err (refusal TooManyReadings))
+    by : (a : Answer) → verdict (ramp_checks b (length sums)) ≡ a → first a (verdict (reading_checks_in in_whole_numbers b xs sums)) ≡ first a (Err (refusal TooManyReadings))
     by (Ok tt) e = rw (lt-ltb (wanted b) (b.fed + length xs) (omega (arith, wanted_nine b (sound_parts b (ramp_taken b (length sums) e).whole))))
     by (Err r) e = refl
 
@@ -70,7 +71,7 @@ module _ (w h : ℕ) (binned : Bool) (bytes : List ℕ) (sums : List ℤ) (outpu
       ∷ []
 
   crowded_answer : (xs : List ℕ) → 9 * (w * h) < length xs → frame_answer w h binned bytes xs sums output ≡ verdict (before ++ Err (refusal TooManyReadings) ∷ [])
-  unfolding before frame_answer feed_of verdict
+  unfolding before frame_answer feed_in verdict
   crowded_answer xs k =
       let b = (started w h binned bytes).board in
       rw (crowded b xs sums (omega (arith, started_area w h binned bytes)), ends (verdict (ramp_checks b (length sums)) ∷ []) (refusal TooManyReadings))

@@ -20,8 +20,8 @@ use Rattle.checks.specs.declared.Reason.TheVariants.{ReadingsWanted, WordsLength
 use Rattle.checks.specs.Checks.{when, first, verdict}
 use Rattle.checks.proofs.Laws.{first_taken, verdict_append, both_taken}
 use Rattle.checks.proofs.Search.{found_every}
-use Rattle.entries.specs.Possible.{possible}
-use Rattle.step.specs.Step.{step}
+use Rattle.engines.specs.Engine.{whole_numbers, in_whole_numbers, step_in, possible_in}
+use Rattle.engines.proofs.Laws.{stands_for}
 use Rattle.sums.specs.Feed.{sums_after}
 use Rattle.ramp.specs.SupportRequires.{Feedable}
 use Rattle.sums.proofs.Feeding.{feed_length}
@@ -32,8 +32,8 @@ use Rattle.layout.specs.SupportRequires.{Readable}
 use Rattle.board.specs.declared.Board.{Board}
 use Rattle.board.specs.Board.{board_area, wanted}
 use Rattle.board.specs.RampChecks.{ramp_checks}
-use Rattle.operations.specs.Feed.{feed_checks, extended, feed_of, fed_sums}
-use Rattle.operations.specs.ReadOut.{read_out_checks, read_out_of, read_out_words}
+use Rattle.operations.specs.Feed.{feed_checks_in, extended, feed_in, feed_of, fed_sums_in, fed_sums}
+use Rattle.operations.specs.ReadOut.{read_out_checks_in, read_out_in, read_out_words_in, read_out_words}
 use Rattle.board.proofs.Soundness.{sound_parts, sides_of, wanted_nine}
 use Rattle.board.proofs.Checked.{ramp_passes}
 use Rattle.operations.proofs.FeedChecked.{FeedTaken, feed_taken}
@@ -68,9 +68,9 @@ module _ (w h : ℕ) (binned : Bool) (bytes : List ℕ) (b : Board) (begun : ((b
   unfolding frame_words_on frame_words
   words_on = rw (answer_on, begun.1)
 
-module _ (b : Board) (none : b.fed ≡ 0) (xs : List ℕ) (sums : List ℤ) (taken : verdict (feed_checks b xs sums) ≡ Ok tt) where
-  parts : FeedTaken b xs sums
-  parts = feed_taken b xs sums taken
+module _ (b : Board) (none : b.fed ≡ 0) (xs : List ℕ) (sums : List ℤ) (taken : verdict (feed_checks_in in_whole_numbers b xs sums) ≡ Ok tt) where
+  parts : FeedTaken in_whole_numbers b xs sums
+  parts = feed_taken in_whole_numbers b xs sums taken
 
   -- the sums as Feed leaves them
   left : List ℤ
@@ -78,10 +78,10 @@ module _ (b : Board) (none : b.fed ≡ 0) (xs : List ℕ) (sums : List ℤ) (tak
 
   left_length : length left ≡ length sums
   unfolding left
-  left_length = feed_length (pos 0) (step b.in_force) (length sums) xs 0 sums
+  left_length = feed_length (pos 0) (step_in in_whole_numbers b.in_force) (length sums) xs 0 sums
 
   -- where all readings came, every entry is possible for N
-  entries_possible : wanted b ≤ length xs → every (possible b.in_force b.in_force.samples) left ≡ true
+  entries_possible : wanted b ≤ length xs → every (possible_in in_whole_numbers b.in_force b.in_force.samples) left ≡ true
   unfolding left
   entries_possible full =
       let s = b.in_force in
@@ -92,17 +92,22 @@ module _ (b : Board) (none : b.fed ≡ 0) (xs : List ℕ) (sums : List ℤ) (tak
       let some : 0 < m = rw l (sides_of b w).some in
       let all : length xs ≡ s.samples * m = rw l (omega (arith, parts.room)) in
       let few : length xs ≤ 9 * m = rw l (omega (arith, parts.room, wanted_nine b w)) in
-      all_possible s r m some xs parts.readings few left (agrees_all s r m some [] xs sums (agrees_none s r m some sums refl)) s.samples r.samples_low all
+      let ten : length xs ≤ 10 * m = omega arith in
+      let engine = in_whole_numbers in
+      let meant = stands_for whole_numbers in
+      all_possible engine meant s r m some xs few left
+      (agrees_all engine s r m some meant [] xs sums ten (agrees_none engine s r m some sums refl))
+      s.samples r.samples_low all
 
-  after : (output : List ℕ) → (read_out_after b xs sums output).answer ≡ verdict (read_out_checks (extended (length xs) b) left output)
-  unfolding feed_of fed_sums read_out_of left
+  after : (output : List ℕ) → (read_out_after b xs sums output).answer ≡ verdict (read_out_checks_in in_whole_numbers (extended (length xs) b) left output)
+  unfolding feed_in fed_sums_in read_out_in left
   after output = rw (taken, none)
 
   ramp_after : verdict (ramp_checks (extended (length xs) b) (length left)) ≡ Ok tt
-  unfolding feed_of
+  unfolding feed_in
   ramp_after =
       ramp_passes _ _ (record {
-        whole = rw taken at (laws.stays_sound.feed b xs sums) ∙ parts.ramp.whole;
+        whole = rw taken at (laws.stays_sound.feed whole_numbers b xs sums) ∙ parts.ramp.whole;
         running = parts.ramp.running;
         length_is = left_length ∙ parts.ramp.length_is;
       })
@@ -115,35 +120,35 @@ module _ (b : Board) (none : b.fed ≡ 0) (xs : List ℕ) (sums : List ℤ) (tak
       rw (after output, verdict_append (ramp_checks (extended (length xs) b) (length left)), ramp_after, z)
       (cases (ltb (length xs) (wanted b))
       (λ e. rw e)
-      (λ e. rw (e, found_every (possible b.in_force b.in_force.samples) left (pos 0) (entries_possible (ltb-false _ _ e))) (first_taken _)))
+      (λ e. rw (e, found_every (possible_in in_whole_numbers b.in_force b.in_force.samples) left (pos 0) (entries_possible (ltb-false _ _ e))) (first_taken _)))
 
 module _ (b : Board) (xs : List ℕ) (sums : List ℤ) (output : List ℕ) (taken : frame_answer_on b xs sums output ≡ Ok tt) where
   pub two_taken : ((feed_of b xs sums).answer ≡ Ok tt) × ((read_out_after b xs sums output).answer ≡ Ok tt)
   unfolding frame_answer_on
   two_taken = both_taken (feed_of b xs sums).answer _ taken
 
-  feed_passed : verdict (feed_checks b xs sums) ≡ Ok tt
-  unfolding feed_of
+  feed_passed : verdict (feed_checks_in in_whole_numbers b xs sums) ≡ Ok tt
+  unfolding feed_in
   feed_passed = two_taken.0
 
   -- the sums that Feed leaves
   abbrev summed : List ℤ
   summed = sums_after b.in_force b.fed xs sums
 
-  pub frame_feedable : Feedable b.in_force b.fed xs sums
-  frame_feedable = feedable b xs sums (feed_taken b xs sums feed_passed)
+  pub frame_feedable : Feedable in_whole_numbers b.in_force b.fed xs sums
+  frame_feedable = feedable in_whole_numbers b xs sums (feed_taken in_whole_numbers b xs sums feed_passed)
 
   pub sums_are : fed_sums b xs sums ≡ summed
-  unfolding fed_sums
+  unfolding fed_sums_in
   sums_are = rw feed_passed
 
-  read_out_passed : verdict (read_out_checks (extended (length xs) b) summed output) ≡ Ok tt
-  unfolding feed_of fed_sums read_out_of
+  read_out_passed : verdict (read_out_checks_in in_whole_numbers (extended (length xs) b) summed output) ≡ Ok tt
+  unfolding feed_in fed_sums_in read_out_in
   read_out_passed = rw feed_passed at two_taken.1
 
-  pub frame_readable : Readable b.sides.width b.sides.height b.sides.binned b.in_force.truncation summed output
-  frame_readable = readable_frame (extended (length xs) b) summed output (read_out_taken (extended (length xs) b) summed output read_out_passed)
+  pub frame_readable : Readable in_whole_numbers b.sides.width b.sides.height b.sides.binned b.in_force.truncation summed output
+  frame_readable = readable_frame in_whole_numbers (extended (length xs) b) summed output (read_out_taken in_whole_numbers (extended (length xs) b) summed output read_out_passed)
 
   pub words_are : read_out_words (feed_of b xs sums).board (fed_sums b xs sums) output ≡ frame_of b.sides.width b.sides.binned b.in_force.truncation summed
-  unfolding feed_of fed_sums read_out_words
+  unfolding feed_in fed_sums_in read_out_words_in
   words_are = rw (feed_passed, read_out_passed)

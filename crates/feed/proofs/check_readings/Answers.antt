@@ -8,10 +8,10 @@ use Rattle.feed.proofs.Feedable.{wanted_left}
 use Rattle.feed.proofs.check_readings.Goals as goal
 
 pub overflow_sub-wanted : goal.overflow_sub-wanted
-overflow_sub-wanted c = let s = sound_parts _ c.requires.0 in rw (c.wanted.ensures, s.sides) s.fed
+overflow_sub-wanted g c = let s = sound_parts _ c.requires.0 in rw (c.wanted.ensures, s.sides) s.fed
 
 pub first_impossible_written-impossible-requires : goal.first_impossible_written-impossible-requires
-first_impossible_written-impossible-requires c =
+first_impossible_written-impossible-requires g c =
     let b = c.args.board.now in
     let s = sound_parts b c.requires.0 in
     let z = sides_of b s in

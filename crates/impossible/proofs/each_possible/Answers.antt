@@ -3,9 +3,8 @@ use mathlib.Core.Path.{◌∙◌}
 use mir.Facts.{to_z-of_z}
 use Rattle.std.proofs.Common.{rules}
 use Rattle.std.proofs.lemmas.Iterator.{YieldsList-from_slice}
-use Rattle.readings.proofs.Folded.{fold_from_yields_List}
+use Rattle.laws.proofs.Folds.{fold_from_yields_List, every_fold}
 use Rattle.entries.specs.Possible.{possible_after}
-use Rattle.impossible.proofs.Near.{every_fold}
 use Rattle.impossible.proofs.each_possible.Goals as goal
 
 pub returns : goal.returns

@@ -9,7 +9,7 @@ use Rattle.step.proofs.Steps.{weight_in_range_lem}
 use Rattle.ramp.proofs.feed_sample.Goals as goal
 
 pub feed_part-requires-clause-sample_value : goal.feed_part-requires-clause-sample_value
-feed_part-requires-clause-sample_value c =
+feed_part-requires-clause-sample_value g c =
     let s = c.args.settings.now in
     let r = in_range_parts s c.requires.settings_value in record {
       number = c.requires.le_n;
@@ -19,4 +19,4 @@ feed_part-requires-clause-sample_value c =
 
 pub returns : goal.returns
 unfolding step
-returns c = rw (back w32 c.weight.result c.weight.type_inv ∙ c.weight.ensures) at c.feed_part.ensures
+returns g c = rw (back w32 c.weight.result c.weight.type_inv ∙ c.weight.ensures) at c.feed_part.ensures

@@ -16,10 +16,10 @@ use Rattle.ramp.proofs.write_sums.Goals as goal
 
 pub loop-rest-init : goal.loop-rest-init
 unfolding feed_all
-loop-rest-init c = simp sub_self (omega arith, refl, refl, refl, refl)
+loop-rest-init g c = simp sub_self (omega arith, refl, refl, refl, refl)
 
 pub feed_sample-requires-clause-readings_value : goal.feed_sample-requires-clause-readings_value
-feed_sample-requires-clause-readings_value c =
+feed_sample-requires-clause-readings_value g c =
     let l = c.loop-rest in
     let i = l.at - c.args.fed in
     rw (c.split_at.ensures.front, l.invariant.2) (every_take reading_in_range c.min-k.result (drop i c.args.readings.now) (every_drop reading_in_range i c.args.readings.now c.requires.readings))
@@ -29,23 +29,23 @@ here : (at m : ℕ) → 0 < m → at < 9 * m → (at / m * m + at % m ≡ at) ×
 here at m some room = let e = place at m some in (e.0, e.1, few at m some room)
 
 pub feed_sample-requires-clause-sums_value : goal.feed_sample-requires-clause-sums_value
-feed_sample-requires-clause-sums_value c =
+feed_sample-requires-clause-sums_value g c =
     let a = c.args in
     let l = c.loop-rest in
     let h = c.requires in
     let k = c.min-k.result in
     let e = here l.at (length a.sums.now) h.some (grind (arith, nat_tests)) in
-    rw l.invariant.4 (simp add-sub_cancel_left (turn_in_range a.settings.now a.fed a.readings.now a.sums.now h l.at k (omega arith) (omega arith) (omega arith) e.2))
+    rw l.invariant.4 (simp add-sub_cancel_left (turn_in_range g.E.Entry.engine g.met.E.Entry.stands_for a.settings.now a.fed a.readings.now a.sums.now h l.at k (omega arith) (omega arith) (omega arith) e.2))
 
 pub loop-rest-preserved : goal.loop-rest-preserved
-loop-rest-preserved c =
+loop-rest-preserved g c =
     let a = c.args in
     let l = c.loop-rest in
     let h = c.requires in
     let k = c.min-k.result in
     let p = here l.at (length a.sums.now) h.some (grind (arith, nat_tests)) in
     let e = simp (add-sub_cancel_left, add-one, l.invariant.4, c.split_at.ensures.front, l.invariant.2) at c.feed_sample.ensures in
-    let n = turn_next a.settings.now a.fed a.readings.now a.sums.now h l.at k (omega arith) (omega arith) (omega arith) in
+    let n = turn_next g.E.Entry.engine g.met.E.Entry.stands_for a.settings.now a.fed a.readings.now a.sums.now h l.at k (omega arith) (omega arith) (omega arith) in
     let d : l.at - a.fed + k ≡ l.at + k - a.fed = omega arith in (
       omega arith,
       omega (arith, c.split_at.ensures.back_len),

@@ -5,6 +5,6 @@ use Rattle.read_out.proofs.Readable.{readable_frame}
 use Rattle.read_out.proofs.read_out.Goals as goal
 
 pub write_frame-requires : goal.write_frame-requires
-write_frame-requires c =
+write_frame-requires g c =
     let a = c.args in
-    readable_frame a.board.now a.sums.now a.words.now (read_out_taken a.board.now a.sums.now a.words.now (sym c.in_ok-check_read_out.ensures))
+    readable_frame g.E.Entry.engine a.board.now a.sums.now a.words.now (read_out_taken g.E.Entry.engine a.board.now a.sums.now a.words.now (sym c.in_ok-check_read_out.ensures))

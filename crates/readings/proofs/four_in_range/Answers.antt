@@ -4,7 +4,7 @@ use Rattle.std.proofs.Common.{rules}
 use Rattle.std.proofs.lemmas.Iterator.{YieldsList-from_slice, YieldsList-from_zip}
 use Rattle.std.specs.List.{fold, zip}
 use Rattle.readings.proofs.Bits.{bits_of_four, four_together}
-use Rattle.readings.proofs.Folded.{fold_from_yields_List}
+use Rattle.laws.proofs.Folds.{fold_from_yields_List}
 use Rattle.readings.proofs.four_in_range.Goals as goal
 
 pub returns : goal.returns

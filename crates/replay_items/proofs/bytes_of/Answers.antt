@@ -1,7 +1,7 @@
 -- Each call gives its byte, and changes nothing.
 use Rattle.std.proofs.Common.{rules}
 use Rattle.replay_items.specs.Items.{byte_item}
-use Rattle.board_words.proofs.Calls.{answers_each}
+use Rattle.laws.proofs.Calls.{answers_each}
 use Rattle.replay_items.proofs.bytes_of.Goals as goal
 
 pub returns-clause-items : goal.returns-clause-items

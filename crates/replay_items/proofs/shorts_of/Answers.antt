@@ -1,7 +1,7 @@
 -- Each call gives its number, and changes nothing.
 use Rattle.std.proofs.Common.{rules}
 use Rattle.replay_items.specs.Items.{short_item}
-use Rattle.board_words.proofs.Calls.{answers_each}
+use Rattle.laws.proofs.Calls.{answers_each}
 use Rattle.replay_items.proofs.shorts_of.Goals as goal
 
 pub returns-clause-items : goal.returns-clause-items

@@ -1,34 +1,21 @@
 -- The sum and the mark fit, and each call says its part of the definition.
 use mathlib.Core.Path.{◌≡◌, ◌∙◌}
 use mathlib.Core.Bool.{true}
-use Prim.Native.Nat.{ℕ, ◌+◌, ◌<◌, ◌≤◌}
-use native.Mathlib.Omega.{arith}
-use lib.IntN.{ℤ, pos, neg_ℤ, ◌+ℤ◌, ◌*ℤ◌}
-use lib.Signed.{le_z}
+use Prim.Native.Nat.{ℕ, ◌<◌, ◌≤◌}
+use lib.IntN.{ℤ, pos, ◌+ℤ◌, ◌*ℤ◌}
 use mir.Syntax.{w32}
-use mir.Val.{SFits, to_z, of_z}
+use mir.Val.{SFits}
 use mir.Facts.{to_z-of_z}
-use Rattle.laws.proofs.Tests.{and_true}
-use Rattle.laws.proofs.Ints.{sum, fits, signed, back, to_z_nat}
-use Rattle.settings.specs.Settings.{max_weight, weight_in_range}
+use Rattle.laws.proofs.Ints.{sum, fits, signed, back}
+use Rattle.settings.specs.Settings.{weight_in_range}
 use Rattle.readings.specs.Readings.{reading_in_range}
 use Rattle.entries.specs.SupportRange.{entry_in_range}
 use Rattle.entries.proofs.Range.{range}
 use Rattle.step.specs.Step.{pedestal_or_stored}
+use Rattle.step.proofs.Numbers.{number, new_mark, weight}
 use Rattle.step.proofs.Products.{product}
 use Rattle.step.proofs.Steps.{addend_in_range}
 use Rattle.step.proofs.accumulate.Goals as goal
-
-number : (n : ℕ) → n ≤ 9 → to_z w32 n ≡ pos n
-number n h = to_z_nat w32 n (omega arith)
-
-new_mark : (n : ℕ) → n ≤ 9 → SFits w32 (pos (1073741824 + n))
-new_mark n h = record { sfits = omega arith }
-
-weight : (w : ℤ) → weight_in_range w ≡ true → to_z w32 (of_z w32 w) ≡ w
-weight w h =
-    let t = and_true (le_z (neg_ℤ (pos max_weight)) w) (le_z w (pos max_weight)) h in
-    to_z-of_z (fits w32 w (omega signed))
 
 -- the product, and what is added to it
 fits_sum : (n : ℕ) (w : ℤ) (x : ℕ) (e : ℤ) → 1 ≤ n → weight_in_range w ≡ true → reading_in_range x ≡ true → (1 < n → entry_in_range e ≡ true)

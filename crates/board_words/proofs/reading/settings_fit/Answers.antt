@@ -2,8 +2,7 @@
 use Rattle.std.proofs.Common.{rules, ◌∙◌}
 use Rattle.std.proofs.lemmas.Iterator.{YieldsList-from_slice}
 use mathlib.Core.Bool.{true, ◌&&◌}
-use Rattle.readings.proofs.Folded.{fold_from_yields_List}
-use Rattle.impossible.proofs.Near.{every_fold}
+use Rattle.laws.proofs.Folds.{fold_from_yields_List, every_fold}
 use Rattle.board_words.specs.Words.{weight_fits, short_fits, settings_fit}
 use Rattle.board_words.proofs.reading.settings_fit.Goals as goal
 

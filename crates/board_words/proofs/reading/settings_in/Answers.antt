@@ -1,7 +1,7 @@
 -- Each call gives its weight, and changes nothing.
 use Rattle.std.proofs.Common.{rules}
 use Rattle.board_words.specs.Words.{word_at}
-use Rattle.board_words.proofs.Calls.{answers_each}
+use Rattle.laws.proofs.Calls.{answers_each}
 use Rattle.board_words.proofs.reading.settings_in.Goals as goal
 
 pub returns : goal.returns

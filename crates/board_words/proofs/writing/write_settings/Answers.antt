@@ -2,7 +2,7 @@
 use Rattle.std.proofs.Common.{rules, w64, ◌+◌}
 use Rattle.laws.proofs.Ints.{back}
 use Rattle.settings.specs.Settings.{weight_at}
-use Rattle.board_words.proofs.Calls.{answers_each}
+use Rattle.laws.proofs.Calls.{answers_each}
 use Rattle.board_words.proofs.writing.write_settings.Goals as goal
 
 pub returns : goal.returns

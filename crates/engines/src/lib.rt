@@ -1,0 +1,2 @@
+//! No code: the two kinds of entries, and their laws.
+#![tactic(auto)]

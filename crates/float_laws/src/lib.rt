@@ -1,0 +1,2 @@
+//! No code: arithmetic of floats on whole numbers.
+#![tactic(auto)]

@@ -1,0 +1,2 @@
+-- The step of a float.
+pub mod Steps

@@ -1,0 +1,2 @@
+-- The laws of patterns.
+pub mod Laws
