@@ -2,7 +2,7 @@
 ghost use Rattle.std.specs.Prelude.{◌≡◌};
 ghost use Rattle.checks.specs.Checks.{or_refused};
 ghost use Rattle.board.specs.Board as Def;
-ghost use Rattle.board.specs.Open.{open_of};
+ghost use Rattle.board.specs.Open.{no_board, open_of};
 
 use crate::Board;
 use checks::{Reason, Refusal, refuse_when};
@@ -22,6 +22,18 @@ impl Board {
             running: false,
             fed: 0,
         }
+    }
+
+    /// What stands for a board where none was opened: its sides are 0, so it isn't sound, and every operation on it answers 99.
+    /// The definition is `no_board` in board/specs/Open.antt.
+    pub fn none() -> Board
+        ensures { result ≡ no_board }
+    {
+        Board::opened(Sides {
+            width: 0,
+            height: 0,
+            binned: false,
+        })
     }
 
     /// Open. Takes sides, and whether the board is binned. Gives a board with the defaults waiting and in force, and no ramp.

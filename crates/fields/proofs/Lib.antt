@@ -1,4 +1,4 @@
 -- The refusals of the fields.
-pub mod Bad
+pub mod And
 pub mod Laws
 pub mod Known

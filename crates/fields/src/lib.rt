@@ -37,21 +37,31 @@ fn with_field(bit: usize, number: u16, before: Settings) -> Settings
     settings
 }
 
-/// The settings with each field whose bit is set in the map written, or the refusal of the first bad one.
-pub fn decode(bytes: &[u8], before: Settings) -> Result<Settings, Refusal>
-    ensures { result ≡ or_refused (verdict (field_checks bytes.now)) (resulting bytes.now before) }
+/// Each field whose bit is set in the map, in bit order, checked and written into the settings, whatever the checks say: what it gives is the refusal of the first bad one.
+pub fn write_fields(bytes: &[u8], settings: &mut Settings) -> Answer
+    ensures answer { result ≡ verdict (field_checks bytes.now) }
+    ensures settings { settings.new ≡ resulting bytes.now settings.old }
 {
     let map = u16_le_at(bytes, 0);
-    let mut settings = before;
+    let mut answer = Ok(());
     let mut at = 2;
     for bit in 0..FIELDS {
         if bit_set(map, bit) {
             let field = Field::of_bit(bit);
             let number = field.number_at(bytes, at);
-            check(field, number)?;
-            settings = with_field(bit, number, settings);
+            answer = answer.and(check(field, number));
+            *settings = with_field(bit, number, *settings);
             at += field.size();
         }
     }
+    answer
+}
+
+/// The settings with each field whose bit is set in the map written, or the refusal of the first bad one.
+pub fn decode(bytes: &[u8], before: Settings) -> Result<Settings, Refusal>
+    ensures { result ≡ or_refused (verdict (field_checks bytes.now)) (resulting bytes.now before) }
+{
+    let mut settings = before;
+    write_fields(bytes, &mut settings)?;
     Ok(settings)
 }

@@ -1,5 +1,5 @@
 -- What a list of calls so far ensures, and each call keeps.
---     Good                 the ledger shows a sound board, and sums that are allowed agree with them
+--     Good                 the ledger shows a sound board, its readings are in range, and sums that are allowed agree with them
 --     fed_size             a taken Feed leaves a sum for each pixel
 --     taken_keeps          a taken call keeps it: a clause for each call
 --     keeps, taken_good    so does any call; and what a taken one leaves
@@ -10,6 +10,10 @@ use mathlib.Core.List.{List, []}
 use mathlib.Core.Path.{◌≡◌, refl, sym, ap, ◌∙◌}
 use native.Mathlib.Omega.{arith}
 use lib.ListN.{length, length-append}
+use Rattle.laws.specs.Lists.{every}
+use Rattle.laws.proofs.Tests.{true_and}
+use Rattle.laws.proofs.Elements.{every_append}
+use Rattle.readings.specs.Readings.{reading_in_range}
 use Rattle.std.specs.Prelude.{Ok, Err}
 use Rattle.checks.specs.Checks.{Answer, by_answer}
 use Rattle.engines.proofs.Laws.{stands_for}
@@ -28,14 +32,17 @@ use Rattle.history.proofs.Ledgers.{shown_by, opened_is, board_is, call_sound}
 
 pub record Good (ℓ : Ledger) (allowed : Allowed) : Type 0 where
   pub whole : sound (view_of ℓ) ≡ true
+  pub readings : every reading_in_range ℓ.readings ≡ true
   pub sums : (σ : Sums) → allowed σ → length σ.entries ≡ ramp_area (ramp_of ℓ) → Agrees (engine σ) ℓ.in_force (ramp_area (ramp_of ℓ)) ℓ.readings σ.entries
 
 -- where no reading is fed, any sums agree
 none_fed : (ℓ : Ledger) (allowed : Allowed) → ℓ.readings ≡ [] → sound (view_of ℓ) ≡ true → Good ℓ allowed
+unfolding every
 none_fed ℓ allowed e s =
     let p = sound_parts (view_of ℓ) s in
     record {
       whole = s;
+      readings = rw e;
       sums = λ σ a l. rw e (agrees_none (engine σ) ℓ.in_force p.in_force (ramp_area (ramp_of ℓ)) (sides_of (view_of ℓ) p).some σ.entries l);
     }
 
@@ -64,6 +71,7 @@ module _ {ℓ : Ledger} {allowed : Allowed} (good : Good ℓ allowed) where
       let f = feed_taken (engine brought) (view_of ℓ) xs brought.entries t in
       record {
         whole = s;
+        readings = rw every_append (true_and good.readings f.readings);
         sums = λ σ a l.
             let is : σ ≡ sums_left (view_of ℓ) xs brought = a.1 in
             rw (is, t, f.ramp.length_is)
@@ -74,7 +82,7 @@ module _ {ℓ : Ledger} {allowed : Allowed} (good : Good ℓ allowed) where
 
   -- the board that it shows is sound
   taken_keeps : (c : Call) → ledger_answer ℓ c ≡ Ok tt → sound (view_of (effect ℓ c)) ≡ true → Good (effect ℓ c) (after_taken (view_of ℓ) c allowed)
-  taken_keeps (update bytes) t s = record { whole = s; sums = good.sums }
+  taken_keeps (update bytes) t s = record { whole = s; readings = good.readings; sums = good.sums }
   taken_keeps start t s = none_fed (effect ℓ start) _ refl s
   taken_keeps (feed xs sums) t s = feed_keeps xs sums t s
   taken_keeps (read_out sums output) t s = none_fed (effect ℓ (read_out sums output)) allowed refl s

@@ -59,22 +59,24 @@ fn rest_of(kept: usize, input: &mut impl Read) -> Result<usize, Failure>
 }
 
 // The text for an input, of which the first bytes are kept and the rest are counted.
-fn answer(kept: &[u8], rest: usize) -> ArrayVec<u8, ROOM>
+fn answer(kept: &[u8], rest: usize, text: &mut ArrayVec<u8, ROOM>)
     requires kept_bound { length kept.now ≤ capacity }
     requires rest_bound { rest ≤ 17592186044416 }
-    ensures { result.items ≡ text_of kept.now (length kept.now + rest) }
+    ensures { text.new.items ≡ text_of kept.now (length kept.now + rest) }
 {
-    jig_report::text_of(Input {
+    let input = Input {
         kept,
         total: kept.len() + rest,
-    })
+    };
+    jig_report::write_text(input, text);
 }
 
 // Prints the text for what comes in.
 fn print_frame(rt: &impl Print, input: &mut impl Read) -> Result<(), Failure> {
     let mut buffer = [0; jig_job::CAPACITY];
+    let mut text = ArrayVec::new();
     let count = kept_of(input, &mut buffer)?;
-    let text = answer(&buffer[..count], rest_of(count, input)?);
+    answer(&buffer[..count], rest_of(count, input)?, &mut text);
     rt.write_all(&text)?;
     Ok(())
 }

@@ -25,7 +25,6 @@ readable_frame engine b sums output t =
     let z = sides_of b s in
     record {
       pixels = t.ramp.length_is;
-      few = rw t.ramp.length_is z.few;
       room = t.room;
       even = λ e. (z.width.even e, z.height.even e);
       truncation = true_and (le-leb _ _ s.in_force.truncation_low) (le-leb _ _ s.in_force.truncation_high);

@@ -1,8 +1,8 @@
 //! The commands of a script, played on a board, on the sums and the floats that are lent and on the words.
-ghost use Rattle.std.specs.Prelude.{◌≤◌};
+ghost use Rattle.std.specs.Prelude.{◌≤◌, length};
 ghost use Rattle.replay_commands.specs.Ranges.{InRange};
 
-use crate::buffers::Buffers;
+use crate::buffers::{Buffers, set_items};
 use crate::show::{Answered, Flag, Flags, Meaning, Shown, Tens};
 use arrayvec::ArrayVec;
 use board::Board;
@@ -16,9 +16,17 @@ use read_out::read_out;
 use replay_commands::{AnyEntry, Command, Kind};
 use replay_items::{MOST, Numbers, bytes_of, halves_of, shorts_of};
 use replay_script::said;
-use settings::Settings;
 use sides::Sides;
 use std::fmt::{self, Write};
+
+// Some floats, by the halves of their patterns.
+#[inline(never)]
+fn print_floats(out: &mut impl Write, floats: &[f64]) -> fmt::Result
+    requires { length floats.now ≤ 4096 }
+{
+    let halves = halves_of(floats);
+    write!(out, "taken\n{}", Tens(&halves[..2 * floats.len()]))
+}
 
 // A board, the sums and the floats, and the words.
 #[derive(Drop)]
@@ -30,20 +38,10 @@ pub(crate) struct Player {
 }
 
 impl Player {
-    // No board is open, and the sums, the floats and the words are empty. No `Option`: until one is open a replay shows and calls this board of no pixels, which is not sound.
+    // No board is open, and the sums, the floats and the words are empty. No `Option`: until one is open a replay shows and calls `Board::none`.
     pub(crate) fn new() -> Player {
         Player {
-            board: Board {
-                sides: Sides {
-                    width: 0,
-                    height: 0,
-                    binned: false,
-                },
-                waiting: Settings::defaults(),
-                in_force: Settings::defaults(),
-                running: false,
-                fed: 0,
-            },
+            board: Board::none(),
             sums: Buffers::new(),
             floats: Buffers::new(),
             words: ArrayVec::new(),
@@ -56,7 +54,21 @@ impl Player {
         Ok(())
     }
 
-    fn feed(&mut self, kind: Kind, readings: &[u16]) -> Answer {
+    // Update with the first bytes of a list. Here and below `inline(never)`: room for all that a list can have is made at each call of a function that has it, and in `run`
+    // it would be made at every command.
+    #[inline(never)]
+    fn update(&mut self, count: usize, list: &[i64]) -> Answer
+        requires { count ≤ 4096 }
+    {
+        control::update(&mut self.board, &bytes_of(list)[..count])
+    }
+
+    // Feed with the first readings of a list.
+    #[inline(never)]
+    fn feed(&mut self, kind: Kind, same: bool, count: usize, list: &[i64]) -> Answer
+        requires { count ≤ 4096 }
+    {
+        let readings = &shorts_of(same, list)[..count];
         match kind {
             Kind::WholeNumbers => feed(&mut self.board, readings, self.sums.lent_mut()),
             Kind::Floats => feed(&mut self.board, readings, self.floats.lent_mut()),
@@ -64,15 +76,17 @@ impl Player {
     }
 
     // Read out. A taken one leaves its frame as the words.
-    fn read_out(&mut self, kind: Kind, count: usize) -> Answer {
-        let mut frame = ArrayVec::from([0; MOST]);
-        frame.truncate(count);
-        let words = frame.as_mut_slice();
+    #[inline(never)]
+    fn read_out(&mut self, kind: Kind, count: usize) -> Answer
+        requires { count ≤ 4096 }
+    {
+        let mut frame = [0; MOST];
+        let words = &mut frame[..count];
         match kind {
             Kind::WholeNumbers => read_out(&mut self.board, self.sums.lent(), words)?,
             Kind::Floats => read_out(&mut self.board, self.floats.lent(), words)?,
         }
-        self.words = frame;
+        set_items(&frame[..count], &mut self.words);
         Ok(())
     }
 
@@ -84,7 +98,9 @@ impl Player {
     }
 
     // Read out, and the frame if it is taken.
-    fn frame(&mut self, out: &mut impl Write, kind: Kind, count: usize) -> fmt::Result {
+    fn frame(&mut self, out: &mut impl Write, kind: Kind, count: usize) -> fmt::Result
+        requires { count ≤ 4096 }
+    {
         let answer = self.read_out(kind, count);
         self.show(out, answer)?;
         if answer.is_ok() {
@@ -125,13 +141,18 @@ impl Player {
                 None => writeln!(out, "outside"),
             },
             Kind::Floats => match self.floats.lent().get(places) {
-                Some(floats) => {
-                    let halves = halves_of(floats);
-                    write!(out, "taken\n{}", Tens(&halves[..2 * count]))
-                }
+                Some(floats) => print_floats(out, floats),
                 None => writeln!(out, "outside"),
             },
         }
+    }
+
+    // The first words of a list are the words.
+    #[inline(never)]
+    fn set_words(&mut self, count: usize, list: &[i64])
+        requires { count ≤ 4096 }
+    {
+        set_items(&shorts_of(false, list)[..count], &mut self.words);
     }
 
     // The words as a frame: a command names the width and the height, and the words stand here.
@@ -157,8 +178,7 @@ impl Player {
                 self.show(out, Ok(()))
             }
             Command::Update(count) => {
-                let bytes = bytes_of(list);
-                let answer = control::update(&mut self.board, &bytes[..count]);
+                let answer = self.update(count, list);
                 self.show(out, answer)
             }
             Command::Start => {
@@ -166,8 +186,7 @@ impl Player {
                 self.show(out, answer)
             }
             Command::Feed { kind, count, same } => {
-                let readings = shorts_of(same, list);
-                let answer = self.feed(kind, &readings[..count]);
+                let answer = self.feed(kind, same, count, list);
                 self.show(out, answer)
             }
             Command::ReadOut { kind, count } => self.frame(out, kind, count),
@@ -205,8 +224,7 @@ impl Player {
             }
             Command::Print { kind, start, count } => self.print(out, kind, start, count),
             Command::Words(count) => {
-                self.words = ArrayVec::from(shorts_of(false, list));
-                self.words.truncate(count);
+                self.set_words(count, list);
                 writeln!(out, "taken")
             }
             Command::Nearest {

@@ -92,8 +92,12 @@ impl From<TryFromIntError> for Malformed {
     }
 }
 
-// The largest number of ten digits.
+// The largest number of ten digits, and the largest with no sign of 16 bits and of 8.
 const LARGEST: usize = 9999999999;
+
+const LARGEST_SHORT: usize = 65535;
+
+const LARGEST_BYTE: usize = 255;
 
 // A number with no sign, up to the highest.
 fn up_to(n: i64, highest: usize) -> Result<usize, Malformed>
@@ -102,6 +106,19 @@ fn up_to(n: i64, highest: usize) -> Result<usize, Malformed>
 {
     let m = usize::try_from(n)?;
     if m <= highest { Ok(m) } else { Err(Malformed) }
+}
+
+// A number with no sign of 16 bits, and of 8.
+fn short(n: i64) -> Result<u16, Malformed>
+    ensures { OkIff result ((pos 0 ≤ℤ n) × (n ≤ℤ pos 65535)) (natural_of n) }
+{
+    Ok(u16::try_from(n)?)
+}
+
+fn byte(n: i64) -> Result<u8, Malformed>
+    ensures { OkIff result ((pos 0 ≤ℤ n) × (n ≤ℤ pos 255)) (natural_of n) }
+{
+    Ok(u8::try_from(n)?)
 }
 
 // A number of 32 bits with a sign.
@@ -172,15 +189,12 @@ fn board(list: &[i64]) -> Result<Board, Malformed>
     }
 }
 
-// How many items there are, if it is as many as their count says, and each is in the range of a type.
-fn counted<T: TryFrom<i64, Error = TryFromIntError> + Drop>(
-    count: i64,
-    items: &[i64],
-) -> Result<usize, Malformed>
+// How many items there are, if it is as many as their count says, and each goes up to the highest.
+fn counted(count: i64, items: &[i64], highest: usize) -> Result<usize, Malformed>
     ensures { IfOk result (λ m. m ≤ 4096) }
 {
     let m = up_to(count, MOST)?;
-    if m == items.len() && items.iter().all(|n| T::try_from(*n).is_ok()) {
+    if m == items.len() && items.iter().all(|n| up_to(*n, highest).is_ok()) {
         Ok(m)
     } else {
         Err(Malformed)
@@ -193,20 +207,24 @@ pub fn named(word: &[u8], list: &[i64]) -> Result<Command, Malformed>
 {
     match (word, list) {
         (b"open", [width, height, binned]) => Ok(Command::Open(Sides {
-            width: usize::from(u16::try_from(*width)?),
-            height: usize::from(u16::try_from(*height)?),
+            width: usize::from(short(*width)?),
+            height: usize::from(short(*height)?),
             binned: flag(*binned)?,
         })),
         (b"board", numbers) => Ok(Command::Board(board(numbers)?)),
-        (b"update", [count, bytes @ ..]) => Ok(Command::Update(counted::<u8>(*count, bytes)?)),
+        (b"update", [count, bytes @ ..]) => Ok(Command::Update(counted(
+            *count,
+            bytes,
+            LARGEST_BYTE,
+        )?)),
         (b"start", []) => Ok(Command::Start),
         (b"feed" | b"feed floats", [count, readings @ ..]) => Ok(Command::Feed {
             kind: kind_named(word),
-            count: counted::<u16>(*count, readings)?,
+            count: counted(*count, readings, LARGEST_SHORT)?,
             same: false,
         }),
         (b"fill" | b"fill floats", [count, reading]) => {
-            u16::try_from(*reading)?;
+            short(*reading)?;
             Ok(Command::Feed {
                 kind: kind_named(word),
                 count: up_to(*count, MOST)?,
@@ -220,8 +238,8 @@ pub fn named(word: &[u8], list: &[i64]) -> Result<Command, Malformed>
         (b"drop", []) => Ok(Command::Drop),
         (b"covered", []) => Ok(Command::Covered),
         (b"word", [word, truncation]) => Ok(Command::Word {
-            word: u16::try_from(*word)?,
-            truncation: u16::from(u8::try_from(*truncation)?),
+            word: short(*word)?,
+            truncation: u16::from(byte(*truncation)?),
         }),
         (b"sums" | b"floats", [length, numbers @ ..]) => Ok(Command::Replace {
             length: up_to(*length, MOST)?,
@@ -237,7 +255,11 @@ pub fn named(word: &[u8], list: &[i64]) -> Result<Command, Malformed>
             start: up_to(*start, MOST)?,
             count: up_to(*count, MOST)?,
         }),
-        (b"words", [count, words @ ..]) => Ok(Command::Words(counted::<u16>(*count, words)?)),
+        (b"words", [count, words @ ..]) => Ok(Command::Words(counted(
+            *count,
+            words,
+            LARGEST_SHORT,
+        )?)),
         (b"nearest", [width, height, row, column]) => Ok(Command::Nearest {
             width: large(*width)?,
             height: large(*height)?,

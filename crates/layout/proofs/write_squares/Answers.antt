@@ -19,7 +19,8 @@ loop-row-init g c = search rules
 pub overflow_add-middle-in-loop-row : goal.overflow_add-middle-in-loop-row
 overflow_add-middle-in-loop-row g c =
     let e = row_left c.args.sides.width c.args.sides.height c.loop-row.row _ _ (c.requires.even refl) c.requires.pixels c.requires.room c.loop-row-test.true in
-    record { fits = omega (arith, e, c.requires.few) }
+    let words_fit = c.well_formed.1.1.1.0 in
+    record { fits = omega (arith, e, c.requires.room, words_fit) }
 
 pub slice_bounds-write_row-end-in-loop-row : goal.slice_bounds-write_row-end-in-loop-row
 slice_bounds-write_row-end-in-loop-row g c =
