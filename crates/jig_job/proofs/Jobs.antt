@@ -8,7 +8,7 @@
 use Prim.Native.Nat.{ℕ, zero, suc, ◌*◌, ◌≤◌, ◌<◌}
 use mathlib.Core.Bool.{Bool, true, false}
 use mathlib.Core.List.{List, [], ◌∷◌, ◌++◌}
-use mathlib.Core.Path.{◌≡◌, refl, sym, ◌∙◌}
+use mathlib.Core.Path.{◌≡◌, refl, sym, ap, ◌∙◌}
 use native.Mathlib.Omega.{arith}
 use lib.IntN.{ℤ, pos}
 use lib.ListN.{length, take, replicate}
@@ -30,7 +30,7 @@ use Rattle.jig_input.specs.Input.{width_of, height_of, is_binned, record_of, rea
 use Rattle.jig_input.specs.Checks.{job_area, input_checks, opened_by}
 use Rattle.jig_input.proofs.Checking.{open_taken, few_pixels}
 use Rattle.jig_job.specs.declared.Job.{Job}
-use Rattle.jig_job.specs.Job.{zero_sums, zero_words, job_answer, job_words, columns_of, truncation_of, result_of}
+use Rattle.jig_job.specs.Job.{zero_sums, zero_words, job_answer, job_words, columns_of, truncation_of, padded, result_of}
 
 -- the frame of an input with other readings
 abbrev pub answer_of : List ℕ → List ℕ → Answer
@@ -125,14 +125,17 @@ module _ (bytes : List ℕ) (total : ℕ) where
 
   pub carried : (job : Job)
       → job_answer bytes total ≡ Ok tt
-      → job.words.items ≡ words_of bytes (first_readings bytes)
+      → job.count ≡ length (words_of bytes (first_readings bytes))
+      → job.words ≡ padded (words_of bytes (first_readings bytes))
       → job.columns ≡ columns_of bytes
       → job.truncation ≡ truncation_of bytes
       → Ok job ≡ result_of bytes total
   unfolding result_of
-  carried job a w c r =
-      let v : job.words.items ≡ job_words bytes total = w ∙ sym (words_are ∙ rw a) in
-      rw (a, ← v, ← c, ← r)
+  carried job a n w c r =
+      let v : words_of bytes (first_readings bytes) ≡ job_words bytes total = sym (words_are ∙ rw a) in
+      let count : job.count ≡ length (job_words bytes total) = n ∙ ap length v in
+      let words : job.words ≡ padded (job_words bytes total) = w ∙ ap padded v in
+      rw (a, ← words, ← count, ← c, ← r)
 
   module _ (opened : Board) (o : Ok opened ≡ or_refused (opened_by bytes total).answer (opened_by bytes total).board) where
     pub input_taken : (verdict (input_checks bytes total) ≡ Ok tt) × ((open_of (width_of bytes) (height_of bytes) (is_binned bytes)).board ≡ opened)

@@ -21,7 +21,7 @@ use Rattle.jig_input.specs.Checks.{input_checks}
 use Rattle.jig_job.specs.declared.Job.{Job}
 use Rattle.update.proofs.Overlong.{longest}
 use Rattle.jig_job.specs.Kept.{capacity}
-use Rattle.jig_job.specs.Job.{zero_sums, zero_words, job_answer, job_words, truncation_of, result_of}
+use Rattle.jig_job.specs.Job.{zero_sums, zero_words, job_answer, job_words, truncation_of, padded, result_of}
 use Rattle.jig_job.specs.Laws.{JobLaws}
 use Rattle.jig_job.proofs.Parts.{drop_take}
 use Rattle.jig_job.proofs.Jobs.{Handed, handed, first_readings, answer_is, words_are, overlong_is, overlong_refused}
@@ -29,8 +29,8 @@ use Rattle.jig_job.proofs.Jobs.{Handed, handed, first_readings, answer_is, words
 -- results of the same answer, words, columns and r
 same_results : {a b : Answer} {c d : ℕ} {v w : List ℕ} (r s : ℕ) → a ≡ b → (x : Answer) → b ≡ x → c ≡ d → by_answer b r 0 ≡ by_answer b s 0 → v ≡ w
     → ◌≡◌ {A = Result Job Refusal}
-    (or_refused a (record { columns = c; truncation = r; words = record { items = v } }))
-    (or_refused b (record { columns = d; truncation = s; words = record { items = w } }))
+    (or_refused a (record { columns = c; truncation = r; count = length v; words = padded v }))
+    (or_refused b (record { columns = d; truncation = s; count = length w; words = padded w }))
 same_results r s e (Ok tt) is c t w = let k : r ≡ s = rw is at t in rw (e, is, c, k, w)
 same_results r s e (Err f) is c t w = rw (e, is)
 

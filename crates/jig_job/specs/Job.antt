@@ -1,11 +1,11 @@
 -- What comes of a job.
-use Rattle.std.specs.Prelude.{ℕ, ◌/◌, cond, List, [], ◌∷◌, ◌++◌, ℤ, pos, replicate, Result}
+use Rattle.std.specs.Prelude.{ℕ, ◌-◌, ◌/◌, cond, List, [], ◌∷◌, ◌++◌, ℤ, pos, replicate, length, Result}
 use Rattle.checks.specs.declared.Refusal.{Refusal}
 use Rattle.checks.specs.Checks.{Answer, verdict, by_answer, or_refused}
 use Rattle.encoding.specs.Frame.{word_count}
 use Rattle.begin.specs.Begin.{started}
 use Rattle.whole_frame.specs.Chain.{frame_answer, frame_words}
-use Rattle.jig_input.specs.Input.{width_of, height_of, is_binned, record_of, readings_of}
+use Rattle.jig_input.specs.Input.{width_of, height_of, is_binned, record_of, readings_of, max_pixels}
 use Rattle.jig_input.specs.Checks.{job_area, input_checks}
 use Rattle.jig_job.specs.declared.Job.{Job}
 
@@ -41,10 +41,14 @@ columns_of bytes = cond (is_binned bytes) (width_of bytes / 2) (width_of bytes)
 abbrev pub truncation_of : List ℕ → ℕ
 truncation_of bytes = (started (width_of bytes) (height_of bytes) (is_binned bytes) (record_of bytes)).board.in_force.truncation
 
+-- words in the array of a job: zeros stand behind them
+abbrev pub padded : List ℕ → List ℕ
+padded words = words ++ replicate (max_pixels - length words) 0
+
 -- what a taken job gives
 abbrev pub job_of : List ℕ → ℕ → Job
-job_of bytes total = record { columns = columns_of bytes; truncation = truncation_of bytes; words = record { items = job_words bytes total } }
+job_of bytes total = record { columns = columns_of bytes; truncation = truncation_of bytes; count = length (job_words bytes total); words = padded (job_words bytes total) }
 
--- a job's result: the words, the words in a row and the r in force; or the refusal
+-- a job's result: the words and their number, the words in a row and the r in force; or the refusal
 unfoldable pub result_of : List ℕ → ℕ → Result Job Refusal
 result_of bytes total = or_refused (job_answer bytes total) (job_of bytes total)

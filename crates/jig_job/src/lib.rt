@@ -1,10 +1,11 @@
 //! A job of the jig: from the bytes of an input to the words of its frame, or a refusal.
 #![tactic(auto)]
 
-ghost use Rattle.std.specs.Prelude.{◌≡◌, cond, ◌/◌, Ok};
+ghost use Rattle.std.specs.Prelude.{◌≡◌, ◌≤◌, cond, ◌/◌, Ok, length, take};
 ghost use Rattle.checks.specs.Checks.{or_refused};
 ghost use Rattle.jig_input.specs.Checks.{opened_by};
-ghost use Rattle.jig_job.specs.Job.{result_of};
+ghost use Rattle.jig_input.specs.Input.{max_pixels};
+ghost use Rattle.jig_job.specs.Job.{padded, result_of};
 
 use arrayvec::ArrayVec;
 use begin::begin_on;
@@ -22,12 +23,24 @@ const READINGS: usize = 9 * PIXELS + 1;
 /// How much of an input matters: six bytes, a record of 255 bytes, and these readings.
 pub const CAPACITY: usize = 6 + 255 + 2 * READINGS;
 
-/// What comes of a taken job: the words of its frame, how many of them stand in a row, and the r by which they are read.
-#[derive(Clone, Debug, Drop, PartialEq, Eq)]
+/// What comes of a taken job: how many words stand in a row of its frame, the r by which they are read, and the words, which are the first `count` of the array.
+/// It can be copied, which no vector can.
+#[derive(Clone, Copy, Debug, PartialEq, Eq)]
 pub struct Job {
     pub columns: usize,
     pub truncation: u16,
-    pub words: ArrayVec<u16, PIXELS>,
+    pub count: usize,
+    pub words: [u16; PIXELS],
+}
+
+impl Job {
+    /// The words of the frame.
+    pub fn frame(&self) -> &[u16]
+        ensures words { result.now ≡ take self.now.count self.now.words }
+        ensures few { length result.now ≤ max_pixels }
+    {
+        self.words.get(..self.count).unwrap_or(&self.words)
+    }
 }
 
 // How many words a row has.
@@ -39,6 +52,16 @@ fn columns(sides: Sides) -> usize
     } else {
         sides.width
     }
+}
+
+// Words in the array of a job. Zeros stand behind them.
+fn padded(words: &[u16]) -> [u16; PIXELS]
+    requires { length words.now ≤ max_pixels }
+    ensures { result ≡ padded words.now }
+{
+    let mut array = [0; PIXELS];
+    array[..words.len()].copy_from_slice(words);
+    array
 }
 
 // A job on the board that its input opened.
@@ -62,7 +85,8 @@ fn carry_out(input: Input, opened: Board) -> Result<Job, Refusal>
     Ok(Job {
         columns: columns(board.sides),
         truncation: board.in_force.truncation,
-        words,
+        count: words.len(),
+        words: padded(words.as_slice()),
     })
 }
 

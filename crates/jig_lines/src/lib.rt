@@ -10,6 +10,8 @@ use arrayvec::ArrayVec;
 use jig_text::{put, put_decimal, put_meaning};
 use meaning::read_word;
 
+pub mod slices;
+
 // A number, and a space after it.
 fn put_field<const ROOM: usize>(out: &mut ArrayVec<u8, ROOM>, n: u64)
     requires { array_vec_len out.old + 21 ≤ ROOM }

@@ -5,8 +5,9 @@ use mathlib.Core.List.{List, ◌∷◌, ◌++◌}
 use mathlib.Core.Path.{◌≡◌, refl, sym, ◌∙◌}
 use borrow.Author.Tests.{not-false}
 use native.Mathlib.Omega.{arith}
-use lib.ListN.{length}
+use lib.ListN.{length, take}
 use Rattle.std.specs.Prelude.{Result, Ok, Err}
+use Rattle.std.proofs.Math.Seq.{take-append_seam}
 use Rattle.checks.specs.declared.Reason.TheVariants.{BadSides}
 use Rattle.checks.specs.declared.Refusal.{Refusal}
 use Rattle.checks.specs.Checks.{Answer, verdict, or_refused}
@@ -16,7 +17,7 @@ use Rattle.jig_job.specs.declared.Job.{Job}
 use Rattle.jig_input.specs.Input.{width_of, height_of, is_binned}
 use Rattle.jig_input.specs.Checks.{input_checks}
 use Rattle.jig_input.proofs.Checking.{sides_pass}
-use Rattle.jig_job.specs.Job.{job_answer, job_words, columns_of, truncation_of, job_of, result_of}
+use Rattle.jig_job.specs.Job.{job_answer, job_words, columns_of, truncation_of, padded, job_of, result_of}
 use Rattle.jig_text.specs.Text.{newline, refusal_text}
 use Rattle.jig_lines.specs.Lines.{lines_text}
 use Rattle.jig_report.specs.Text.{header, answer_text, text_of}
@@ -26,9 +27,13 @@ some_columns : (binned : Bool) (w h : ℕ) → Sides w h binned → 0 < cond bin
 some_columns false w h s = s.width.low
 some_columns true w h s = omega (arith, s.width.low, s.width.even refl)
 
+-- the words of a job stand in front of its array
+in_front : (words : List ℕ) → take (length words) (padded words) ≡ words
+in_front words = take-append_seam words _
+
 -- the text of a result
 abbrev pub result_text : Result Job Refusal → List ℕ
-result_text (Ok job) = header ++ lines_text job.columns job.truncation job.words.items (length job.words.items)
+result_text (Ok job) = header ++ lines_text job.columns job.truncation (take job.count job.words) (length (take job.count job.words))
 result_text (Err r) = refusal_text r ++ newline
 
 module _ (bytes : List ℕ) (total : ℕ) where
@@ -45,7 +50,7 @@ module _ (bytes : List ℕ) (total : ℕ) where
   text_is = by (job_answer bytes total)
     where
       by : (a : Answer) → result_text (or_refused a (job_of bytes total)) ≡ answer_text a (columns_of bytes) (truncation_of bytes) (job_words bytes total)
-      by (Ok tt) = refl
+      by (Ok tt) = rw (in_front (job_words bytes total))
       by (Err f) = refl
 
   -- a row of a taken job has some words

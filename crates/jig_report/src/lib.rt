@@ -22,7 +22,7 @@ pub fn write_text(input: Input, out: &mut ArrayVec<u8, ROOM>)
     match result_of(input) {
         Ok(job) => {
             put(out, b"row col word meaning\n");
-            put_lines(out, job.columns, job.truncation, &job.words);
+            put_lines(out, job.columns, job.truncation, job.frame());
         }
         Err(refusal) => {
             put_refusal(out, refusal);

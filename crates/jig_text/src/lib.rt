@@ -14,6 +14,8 @@ use arrayvec::ArrayVec;
 use checks::Refusal;
 use meaning::WordRead;
 
+pub mod slices;
+
 /// Bytes as they are.
 pub fn put<const ROOM: usize>(out: &mut ArrayVec<u8, ROOM>, bytes: &[u8])
     requires { array_vec_len out.old + length bytes.now ≤ ROOM }

@@ -5,8 +5,11 @@ ghost use Rattle.std.specs.Prelude.{◌≡◌, cond, ◌+◌, ◌<◌, pos, leng
 ghost use Rattle.replay_items.specs.Items.{up_to, byte_items, short_items};
 ghost use Rattle.replay_items.specs.Patterns.{float_of_halves, pattern_at, half, halves};
 
-use arrayvec::ArrayVec;
 use std::{array, num};
+
+pub mod numbers;
+
+pub use numbers::Numbers;
 
 /// The most entries of the sums, readings of a feed, bytes of a record and words.
 pub const MOST: usize = 4096;
@@ -22,9 +25,6 @@ const HALF_RANGE: u64 = 4294967296;
 
 // The pattern that stands for each pattern of no number.
 const NO_NUMBER: u64 = 2146959360 * HALF_RANGE;
-
-/// The numbers of a line.
-pub type Numbers = ArrayVec<i64, COUNT>;
 
 /// The number at a place of a list; 0 past its end: it can't fail, as the definitions have it.
 /// `record::byte` is this one call on bytes: one function for both would be the call under another name.

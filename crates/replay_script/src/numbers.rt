@@ -42,7 +42,9 @@ pub(crate) fn read_numbers(text: &[u8], list: &mut Numbers) -> Result<(), Malfor
         [] => Ok(()),
         [b' ', numbers @ ..] => {
             for n in numbers.split(|b| *b == b' ') {
-                list.try_push(number(n)?).map_err(|_| Malformed)?;
+                if !list.push(number(n)?) {
+                    return Err(Malformed);
+                }
             }
             Ok(())
         }

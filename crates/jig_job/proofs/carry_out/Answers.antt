@@ -14,7 +14,7 @@ use Rattle.arrayvec.proofs.ArrayVecLemmas.{items-with_items}
 use Rattle.jig_input.specs.Input.{width_of, height_of, is_binned, record_of, readings_at, max_pixels, max_readings}
 use Rattle.jig_input.specs.Checks.{job_area}
 use Rattle.jig_input.proofs.Checking.{few_pixels}
-use Rattle.jig_job.specs.Job.{job_answer, result_of}
+use Rattle.jig_job.specs.Job.{job_answer, padded, result_of}
 use Rattle.jig_job.proofs.Parts.{record_part, readings_part}
 use Rattle.jig_job.proofs.Jobs.{Handed, handed, few_words, zeros, job_answer_is, turned_down, input_taken, begun_from, refused_from, carried}
 use Rattle.jig_job.proofs.carry_out.Goals.{After-begin_on, After-frame_on}
@@ -121,9 +121,12 @@ pub returns : goal.returns
 returns c =
     let bytes = c.args.input.kept.now in
     let after = (goal.at.returns c).After-frame_on in
+    let words_are =
+    items-with_items c.truncate-3.new.self c.frame_on.new.words (c.frame_on.auto.words ∙ ap length c.as_mut_slice-3.ensures.value)
+    ∙ (c.frame_on.ensures.words ∙ words_on (width_of bytes) (height_of bytes) (is_binned bytes) (record_of bytes) _ (begun after) _ _ _ ∙ handed frame_words (parts after)) in
     carried bytes c.args.input.total _
     (sym (answered after) ∙ c.in_ok-frame_on.was)
-    (items-with_items c.truncate-3.new.self c.frame_on.new.words (c.frame_on.auto.words ∙ ap length c.as_mut_slice-3.ensures.value)
-    ∙ (c.frame_on.ensures.words ∙ words_on (width_of bytes) (height_of bytes) (is_binned bytes) (record_of bytes) _ (begun after) _ _ _ ∙ handed frame_words (parts after)))
+    (c.len.ensures.value ∙ ap length words_are)
+    (c.padded.ensures ∙ ap padded (c.as_slice.ensures.value ∙ words_are))
     (c.columns.ensures ∙ ap (λ (s : Sides). cond s.binned (s.width / 2) s.width) (sides_named (width_of bytes) (height_of bytes) (is_binned bytes) (record_of bytes) _ (begun after)))
     (sym (ap (λ (b : Board). b.in_force.truncation) (begun after).1))
