@@ -4,8 +4,8 @@ ghost use Rattle.replay_items.specs.Numbers.{no_numbers, has_room, with_number};
 
 use crate::COUNT;
 
-/// The first `count` of the array.
-#[derive(Clone, Copy, Debug, PartialEq, Eq)]
+/// The first `count` of the array. They are compared by `as_slice`: what stands behind them doesn't count.
+#[derive(Clone, Copy, Debug)]
 pub struct Numbers {
     numbers: [i64; COUNT],
     count: usize,
