@@ -10,11 +10,16 @@ use meaning::is_flag;
 use places::{Frame, Place};
 
 // How many words are flags. 16 bits hold that of a row, and the compiler makes vector code of it.
+// Not an iterator's `sum`: in a box of one column that takes a third longer.
 fn count(words: &[u16]) -> u16
     requires { length words.now ≤ 1024 }
     ensures { result ≡ count_by is_flag words.now }
 {
-    words.iter().map(|w| u16::from(is_flag(*w))).sum()
+    let mut flags = 0;
+    for w in words {
+        flags += u16::from(is_flag(*w));
+    }
+    flags
 }
 
 /// How many flags lie in a box, row by row.

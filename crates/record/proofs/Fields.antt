@@ -2,7 +2,7 @@
 --     field_cases                  by a bit's field
 --     weight_below                 a weight's field is one of nine
 --     field_apart                  two bits have two fields
---     width_small, place_small     where a field stands is a small number
+--     size_small, offset_small     where a field stands is a small number
 --     high_bits                    a map has nothing above its fields' bits exactly where none of the bits without one is set
 use Prim.Native.Nat.{ℕ, zero, suc, ◌+◌, ◌-◌, ◌*◌, ◌/◌, ◌%◌, ◌^◌, ◌≤◌, ◌<◌}
 use mathlib.Core.Bool.{not, ◌||◌}

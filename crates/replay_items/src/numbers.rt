@@ -1,10 +1,13 @@
 //! The numbers of a line, at most as many as a line has. They can be copied, which no vector can.
 ghost use Rattle.std.specs.Prelude.{◌≡◌, cond, take};
+ghost use Rattle.std.specs.Cmp.{int_eq_equiv, on_equiv, on_per, partial_equiv_from_equiv};
+ghost use Rattle.std.specs.Cmp.Lexicographic.{lists_equiv, lists_per, pointwise};
+ghost use Rattle.std.specs.Ordering.{int_eq};
 ghost use Rattle.replay_items.specs.Numbers.{no_numbers, has_room, with_number};
 
 use crate::COUNT;
 
-/// The first `count` of the array. They are compared by `as_slice`: what stands behind them doesn't count.
+/// The first `count` of the array. What stands behind them doesn't count.
 #[derive(Clone, Copy, Debug)]
 pub struct Numbers {
     numbers: [i64; COUNT],
@@ -50,4 +53,19 @@ impl Numbers {
     {
         self.numbers.get(..self.count).unwrap_or(&self.numbers)
     }
+}
+
+// `==` is written by hand: a derived one would see what stands behind the numbers.
+impl PartialEq for Numbers {
+    ghost eq = { λ v w. pointwise int_eq (take v.count v.numbers) (take w.count w.numbers) };
+
+    ghost laws = { on_per (λ v. take v.count v.numbers) (lists_per (partial_equiv_from_equiv int_eq_equiv)) };
+
+    fn eq(&self, other: &Self) -> bool {
+        self.as_slice() == other.as_slice()
+    }
+}
+
+impl Eq for Numbers {
+    ghost laws = { on_equiv (λ v. take v.count v.numbers) (lists_equiv int_eq_equiv) };
 }
